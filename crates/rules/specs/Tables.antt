@@ -1,0 +1,88 @@
+-- The tables as lists: what stands where. Each level's blocks stand together, level 0 first (`place` of shape); a list's and the queue's
+-- length stands before its members.
+-- Assumes nothing.
+use mathlib.Core.Bool.{Bool, cond, _&&_}
+use mathlib.Core.List.{List, [], _∷_, _++_}
+use Prim.Native.Nat.{ℕ, zero, suc, _+_, _*_, _-_}
+use lib.ListN.{length, getD, take, drop, set, replicate}
+use lib.Seq.{sets}
+use lib.Dec.{eqb}
+use Rattle.laws.specs.Lists.{pad, upFrom}
+use Rattle.shape.specs.declared.Shape.{Shape}
+use Rattle.shape.specs.Blocks.{count, above, place, blocks}
+use Rattle.rules.specs.declared.Device.{Device}
+use Rattle.rules.specs.declared.Call.{Call}
+use Rattle.rules.specs.Numbers.{FREE, NOEXIST, CELLS}
+
+-- the five tables, and the record of clock and running thread
+pub record State : Type 0 where
+  pub states : List ℕ
+  pub owners : List ℕ
+  pub lists : List ℕ
+  pub calls : List ℕ
+  pub queue : List ℕ
+  pub device : Device
+
+abbrev pub state : List ℕ → List ℕ → List ℕ → List ℕ → List ℕ → Device → State
+state states owners lists calls queue device =
+    record { states = states; owners = owners; lists = lists; calls = calls; queue = queue; device = device }
+
+-- the lengths that the tables of a shape have
+unfoldable pub lengths : Shape → State → Bool
+lengths s T =
+    eqb (length (T .states)) (blocks s)
+    && eqb (length (T .owners)) (blocks s)
+    && eqb (length (T .lists)) (s .levels + blocks s)
+    && eqb (length (T .calls)) (CELLS * s .threads)
+    && eqb (length (T .queue)) (s .threads + 1)
+
+-- the state of block b of level l
+unfoldable pub stateAt : Shape → List ℕ → ℕ → ℕ → ℕ
+stateAt s states l b = getD states (place s l b) 0
+
+-- where the list of level l stands: its length at place l, its members behind the lengths, a section for each level
+unfoldable pub section : Shape → ℕ → ℕ
+section s l = s .levels + above s l
+
+unfoldable pub freeList : Shape → List ℕ → ℕ → List ℕ
+freeList s lists l = take (getD lists l 0) (drop (section s l) lists)
+
+unfoldable pub putList : Shape → List ℕ → ℕ → List ℕ → List ℕ
+putList s lists l xs = set (sets lists (section s l) (pad (count s l) xs)) l (length xs)
+
+-- the queue: its length, then its members
+unfoldable pub queueOf : List ℕ → List ℕ
+queueOf queue = take (getD queue 0 0) (drop 1 queue)
+
+unfoldable pub putQueue : Shape → List ℕ → List ℕ
+putQueue s xs = length xs ∷ pad (s .threads) xs
+
+-- the call of thread t
+unfoldable pub callOf : List ℕ → ℕ → Call
+callOf calls t =
+    record {
+      stage = getD calls (CELLS * t) 0;
+      size = getD calls (CELLS * t + 1) 0;
+      wait = getD calls (CELLS * t + 2) 0;
+      deadline = getD calls (CELLS * t + 3) 0;
+      level = getD calls (CELLS * t + 4) 0;
+      block = getD calls (CELLS * t + 5) 0;
+    }
+
+abbrev pub cells : Call → List ℕ
+cells c = c .stage ∷ c .size ∷ c .wait ∷ c .deadline ∷ c .level ∷ c .block ∷ []
+
+unfoldable pub putCall : List ℕ → ℕ → Call → List ℕ
+putCall calls t c = sets calls (CELLS * t) (cells c)
+
+-- fresh: top blocks FREE, listed 0 upward; no calls; clock 0; nobody running
+unfoldable pub fresh : Shape → State
+fresh s =
+    record {
+      states = replicate (s .tops) FREE ++ replicate (blocks s - s .tops) NOEXIST;
+      owners = replicate (blocks s) 0;
+      lists = putList s (replicate (s .levels + blocks s) 0) 0 (upFrom 0 (s .tops));
+      calls = replicate (CELLS * s .threads) 0;
+      queue = replicate (s .threads + 1) 0;
+      device = record { clock = 0; running = 0 };
+    }

@@ -1,0 +1,4 @@
+pub mod Limits
+pub mod Blocks
+pub mod Time
+pub mod Laws
