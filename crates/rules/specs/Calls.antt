@@ -144,7 +144,7 @@ tickStep s T =
       owners = T .owners;
       lists = T .lists;
       calls = wake (T .calls) (keep (due (T .calls) (T .device .clock + 1)) (queueOf (T .queue)));
-      queue = putQueue s (keep (λ t. not (due (T .calls) (T .device .clock + 1) t)) (queueOf (T .queue)));
+      queue = putQueue (s .threads) (keep (λ t. not (due (T .calls) (T .device .clock + 1) t)) (queueOf (T .queue)));
       device = record { clock = T .device .clock + 1; running = T .device .running };
     }))
 

@@ -71,7 +71,7 @@ noRoom s T t c =
       owners = T .owners;
       lists = T .lists;
       calls = putCall (T .calls) t (moved c WAITING 0);
-      queue = putQueue s (queueOf (T .queue) ++ (t ∷ []));
+      queue = putQueue (s .threads) (queueOf (T .queue) ++ (t ∷ []));
       device = record { clock = T .device .clock; running = 0 };
     })))
 
@@ -177,7 +177,7 @@ settleStep s T t c =
       owners = T .owners;
       lists = putList s (T .lists) (c .level) (freeList s (T .lists) (c .level) ++ (c .block ∷ []));
       calls = wake (putCall (T .calls) t closed) (queueOf (T .queue));
-      queue = putQueue s [];
+      queue = putQueue (s .threads) [];
       device = T .device;
     })
 

@@ -50,12 +50,12 @@ freeList s lists l = take (getD lists l 0) (drop (section s l) lists)
 unfoldable pub putList : Shape → List ℕ → ℕ → List ℕ → List ℕ
 putList s lists l xs = set (sets lists (section s l) (pad (count s l) xs)) l (length xs)
 
--- the queue: its length, then its members
+-- the queue: its length, then its members, and zeros up to n places
 unfoldable pub queueOf : List ℕ → List ℕ
 queueOf queue = take (getD queue 0 0) (drop 1 queue)
 
-unfoldable pub putQueue : Shape → List ℕ → List ℕ
-putQueue s xs = length xs ∷ pad (s .threads) xs
+unfoldable pub putQueue : ℕ → List ℕ → List ℕ
+putQueue n xs = length xs ∷ pad n xs
 
 -- the call of thread t
 unfoldable pub callOf : List ℕ → ℕ → Call
