@@ -8,10 +8,10 @@ use Rattle.laws.specs.Tests.{every, tally}
 use Rattle.laws.specs.Lists.{pad, times, keep, upFrom}
 use Rattle.shape.specs.declared.Shape.{Shape}
 use Rattle.shape.specs.Limits.{parts, unit, allowed}
-use Rattle.shape.specs.Blocks.{size, count, offset, levelFrom, levelFor, id, idPool, idLevel, idBlock, above, place, blocks, bytes}
+use Rattle.shape.specs.Blocks.{size, count, levelFrom, levelFor, above, blocks}
 use Rattle.shape.specs.Time.{longest, ticks, wait}
 use Rattle.rules.specs.Answers.{number, detail}
-use Rattle.rules.specs.Tables.{State, lengths, stateAt, section, freeList, putList, queueOf, putQueue, callOf, putCall, fresh}
+use Rattle.rules.specs.Tables.{State, lengths, freeList, putList, queueOf, putQueue, callOf, putCall, fresh}
 use Rattle.rules.specs.Valid.{statesKnown, listEnds, queueEnds, fieldsUsed, topsExist, partsExist, deepestWhole, buddiesMerged, freeListed, ownersKnown, handInside, oneToOne, targetKept, waitersQueued, runningReady, sizeKept, foundKept, deadlineKept, mayWait, callKept, callsKept, valid}
 use Rattle.rules.specs.Steps.{deepest, noRoom, lookAt, look, takeFrom, takeStep, splitStep, grantStep, divideStep, merges, mergeStep, wake, settleStep, releaseStep, goOnStep}
 use Rattle.rules.specs.Calls.{build, askedCall, askStep, ask, goOn, idOutside, giveBlock, giveStep, give, switchStep, switch, due, tickStep, tick}
@@ -20,7 +20,7 @@ use Rattle.theorems.specs.History.{Step, stepOn, runSteps, answersOf, li
 
 -- where this unfolds every rule does, so that what stands beside it computes
 unfoldable pub everyRule : Bool
-unfolding every tally pad times keep upFrom parts unit allowed size count offset levelFrom levelFor id idPool idLevel idBlock above place blocks bytes longest ticks wait lengths stateAt section freeList putList queueOf putQueue callOf putCall fresh statesKnown listEnds queueEnds fieldsUsed topsExist partsExist deepestWhole buddiesMerged freeListed ownersKnown handInside oneToOne targetKept waitersQueued runningReady sizeKept foundKept deadlineKept mayWait callKept callsKept valid deepest noRoom lookAt look takeFrom takeStep splitStep grantStep divideStep merges mergeStep wake settleStep releaseStep goOnStep build askedCall askStep ask goOn idOutside giveBlock giveStep give switchStep switch due tickStep tick isWhole whole stepOn runSteps answersOf listing
+unfolding every tally pad times keep upFrom parts unit allowed size count levelFrom levelFor above blocks longest ticks wait lengths freeList putList queueOf putQueue callOf putCall fresh statesKnown listEnds queueEnds fieldsUsed topsExist partsExist deepestWhole buddiesMerged freeListed ownersKnown handInside oneToOne targetKept waitersQueued runningReady sizeKept foundKept deadlineKept mayWait callKept callsKept valid deepest noRoom lookAt look takeFrom takeStep splitStep grantStep divideStep merges mergeStep wake settleStep releaseStep goOnStep build askedCall askStep ask goOn idOutside giveBlock giveStep give switchStep switch due tickStep tick isWhole whole stepOn runSteps answersOf listing
 everyRule = true
 
 -- fresh tables after a history
