@@ -10,7 +10,7 @@ use Rattle.shape.specs.declared.Shape.{Shape}
 use Rattle.shape.specs.Blocks.{size, levelFor, id, offset, bytes}
 use Rattle.shape.specs.Time.{ticks}
 use Rattle.rules.specs.Numbers.{ALLOCATED, FREE, DIVIDED}
-use Rattle.rules.specs.Tables.{State, state, freeList, callOf, fresh}
+use Rattle.rules.specs.Tables.{State, state, freeList, callOf}
 use Rattle.theorems.specs.Table.{Case, row, same, agree, Holds, agree-holds}
 use Rattle.theorems.specs.History.{Step, Build, Ask, GoOn, Give, Switch, Tick, Whole}
 use Rattle.theorems.specs.Computed.{everyRule, after, numberOn, numberAfter, detailAfter, freeAfter}

@@ -1,7 +1,7 @@
 -- What a history on closed tables comes to, by the rules' own definitions.
 -- Assumes nothing.
 use mathlib.Core.Bool.{Bool, true}
-use mathlib.Core.List.{List, [], _∷_}
+use mathlib.Core.List.{List}
 use Prim.Native.Nat.{ℕ, _*_}
 use lib.ListN.{length}
 use Rattle.laws.specs.Tests.{every, tally}
