@@ -10,6 +10,7 @@ use lib.Dec.{eqb}
 use borrow.Author.Tests.{eqb-true}
 use Rattle.laws.specs.Tests.{every, every-at, both, either}
 use Rattle.rules.specs.Moves.{mayMove}
+use Rattle.theorems.specs.Table.{alike}
 use Rattle.theorems.specs.History.{Step, Whole, stepOn}
 use Rattle.theorems.specs.Computed.{everyRule, after}
 use Rattle.theorems.specs.Script.{scriptShape, script}
@@ -80,12 +81,6 @@ rows-named = refl
 -- the table of moves has the rows' moves and no other
 pub moves-are-rows : (a b : ℕ) → a < 6 → b < 6 → mayMove a b ≡ named a b rows
 moves-are-rows a b h k = alike (mayMove a b) (named a b rows) (every-at 6 _ (every-at 6 _ rows-named a h) b k)
-  where
-    alike : (x y : Bool) → Bool·beq x y ≡ true → x ≡ y
-    alike true true e = refl
-    alike true false e = sym e
-    alike false true e = e
-    alike false false e = refl
 
 made-in : (a b : ℕ) (rs : List Row) → all-right rs ≡ true → named a b rs ≡ true → Made a b
 unfolding all-right named

@@ -4,43 +4,13 @@ ghost use Prim.Native.Nat.{_<_};
 ghost use Rattle.rules.specs.Moves.{mayMove};
 
 // A row for each state that is left, a column for each that is reached: 1 where the move happens.
-const MOVES: [u8; 36] = [
-    0,
-    0,
-    0,
-    0,
-    1,
-    0,
-    0,
-    0,
-    0,
-    1,
-    0,
-    1,
-    0,
-    0,
-    0,
-    0,
-    1,
-    0,
-    0,
-    1,
-    0,
-    0,
-    0,
-    1,
-    0,
-    1,
-    0,
-    1,
-    0,
-    0,
-    1,
-    0,
-    1,
-    0,
-    0,
-    0,
+const MOVES: [[u8; 6]; 6] = [
+    [0, 0, 0, 0, 1, 0],
+    [0, 0, 0, 1, 0, 1],
+    [0, 0, 0, 0, 1, 0],
+    [0, 1, 0, 0, 0, 1],
+    [0, 1, 0, 1, 0, 0],
+    [1, 0, 1, 0, 0, 0],
 ];
 
 // Whether a block moves from this state to that one.
@@ -48,5 +18,5 @@ pub fn may_move(from: usize, to: usize) -> bool
     requires { ⌜ (from < 6) × (to < 6) ⌝ }
     ensures { λ r. ⌜ r ≡ mayMove from to ⌝ }
 {
-    MOVES[6 * from + to] == 1
+    MOVES[from][to] == 1
 }
