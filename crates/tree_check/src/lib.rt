@@ -23,3 +23,26 @@ fn none_is(cells: &[u8], from: usize, to: usize, value: u8) -> bool
     }
     ok
 }
+
+// Whether every state is known, and an ALLOCATED block, and no other, has a thread as owner.
+fn owners_known(s: Shape, states: &[u8], owners: &[u8]) -> bool
+    requires { ⌜ (allowed s ≡ true) × (length (now states) ≡ blocks s) × (length (now owners) ≡ blocks s) ⌝ }
+    ensures { λ r.
+        ⌜ r
+        ≡ (statesKnown s (now (states .entry))
+        && ownersKnown s (now (states .entry)) (now (owners .entry))) ⌝ }
+{
+    let threads = s.threads as u8;
+    let mut ok = true;
+    let mut k = 0;
+    while k < states.len() {
+        let state = states[k];
+        let owner = owners[k];
+        ok = ok
+            & (state <= rules::ALLOCATING)
+            & ((state == rules::ALLOCATED) == (owner != 0))
+            & (owner <= threads);
+        k += 1;
+    }
+    ok
+}
