@@ -8,7 +8,7 @@ ghost use lib.Dec.{eqb};
 ghost use Rattle.laws.specs.Tests.{every};
 ghost use Rattle.shape.specs.Limits.{allowed};
 ghost use Rattle.shape.specs.Blocks.{above, blocks};
-ghost use Rattle.rules.specs.Valid.{statesKnown, ownersKnown};
+ghost use Rattle.rules.specs.Valid.{statesKnown, ownersKnown, partsExist, buddiesMerged};
 
 // Whether no cell between two places holds a value.
 fn none_is(cells: &[u8], from: usize, to: usize, value: u8) -> bool
@@ -43,6 +43,36 @@ fn owners_known(s: Shape, states: &[u8], owners: &[u8]) -> bool
             & ((state == rules::ALLOCATED) == (owner != 0))
             & (owner <= threads);
         k += 1;
+    }
+    ok
+}
+
+// Whether the parts of a DIVIDED block exist and are not all FREE, and those of any other block do not exist.
+fn parts_kept(s: Shape, states: &[u8], parents: usize) -> bool
+    requires { ⌜ (allowed s ≡ true) × (length (now states) ≡ blocks s) × (parents ≡ above s (s .levels - 1)) ⌝ }
+    ensures { λ r.
+        ⌜ r ≡ (partsExist s (now (states .entry)) && buddiesMerged s (now (states .entry))) ⌝ }
+{
+    let tops = s.tops;
+    let mut ok = true;
+    let mut i = 0;
+    while i < parents {
+        let divided = states[i] == rules::DIVIDED;
+        let first = tops + Shape::PARTS * i;
+        let a = states[first];
+        let b = states[first + 1];
+        let c = states[first + 2];
+        let d = states[first + 3];
+        let agree = ((a != rules::NOEXIST) == divided)
+            & ((b != rules::NOEXIST) == divided)
+            & ((c != rules::NOEXIST) == divided)
+            & ((d != rules::NOEXIST) == divided);
+        let all_free = (a == rules::FREE)
+            & (b == rules::FREE)
+            & (c == rules::FREE)
+            & (d == rules::FREE);
+        ok = ok & (agree & !all_free);
+        i += 1;
     }
     ok
 }
