@@ -32,3 +32,11 @@ blocks-parts s h = ap (above s) deepest ∙ above-parts s (s .levels - 1)
   where
     deepest : s .levels ≡ s .levels - 1 + 1
     deepest = omega arith
+
+-- the deepest level stands last
+pub blocks-deepest : (s : Shape) → 1 ≤ s .levels → blocks s - above s (s .levels - 1) ≡ count s (s .levels - 1)
+unfolding blocks
+blocks-deepest s h = omega (arith, above-next s (s .levels - 1), ap (above s) deepest)
+  where
+    deepest : s .levels - 1 + 1 ≡ s .levels
+    deepest = omega arith

@@ -9,6 +9,7 @@ ghost use Rattle.laws.specs.Tests.{every};
 ghost use Rattle.shape.specs.Limits.{allowed};
 ghost use Rattle.shape.specs.Blocks.{above, blocks};
 ghost use Rattle.rules.specs.Valid.{statesKnown, ownersKnown, partsExist, buddiesMerged};
+ghost use Rattle.tree_check.specs.Tree.{treeValid};
 
 // Whether no cell between two places holds a value.
 fn none_is(cells: &[u8], from: usize, to: usize, value: u8) -> bool
@@ -75,4 +76,22 @@ fn parts_kept(s: Shape, states: &[u8], parents: usize) -> bool
         i += 1;
     }
     ok
+}
+
+// Whether states and owners are those of a valid state.
+pub fn tree_valid(s: Shape, states: &[u8], owners: &[u8]) -> bool
+    requires { ⌜ (allowed s ≡ true) × (length (now states) ≡ blocks s) × (length (now owners) ≡ blocks s) ⌝ }
+    ensures { λ r. ⌜ r ≡ treeValid s (now (states .entry)) (now (owners .entry)) ⌝ }
+{
+    if !owners_known(s, states, owners) {
+        return false;
+    }
+    if !none_is(states, 0, s.tops, rules::NOEXIST) {
+        return false;
+    }
+    let deepest = s.above(s.levels - 1);
+    if !none_is(states, deepest, states.len(), rules::DIVIDED) {
+        return false;
+    }
+    parts_kept(s, states, deepest)
 }
