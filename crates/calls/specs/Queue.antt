@@ -24,6 +24,7 @@ pub record QueueReady (queue : List ℕ) : Type 0 where
   pub ends : getD queue 0 0 ≤ length queue - 1
   pub behind : (i : ℕ) → getD queue 0 0 < i → i < length queue → getD queue i 0 ≡ 0
 
+-- a queue that is put holds what was put
 pub queueOf-putQueue : (n : ℕ) (xs : List ℕ) → length xs ≤ n → queueOf (putQueue n xs) ≡ xs
 unfolding queueOf putQueue
 queueOf-putQueue n xs h = take-pad n xs
@@ -45,6 +46,7 @@ queueOf-at queue i h =
     ∙ getD-drop 1 queue i 0
     ∙ ap (λ (k : ℕ). getD queue k 0) (add-comm 1 i)
 
+-- the first of them are the first behind it
 pub take-queueOf : (queue : List ℕ) (i : ℕ) → i ≤ getD queue 0 0 → take i (queueOf queue) ≡ take i (drop 1 queue)
 unfolding queueOf
 take-queueOf queue i h = take-take i (getD queue 0 0) (drop 1 queue) h

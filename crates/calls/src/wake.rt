@@ -18,7 +18,8 @@ ghost use Rattle.calls.specs.Wake.{MembersInside, DueAwake};
 pub fn wake_all(calls: &mut [u64], queue: &[u8]) -> usize
     requires { ⌜ MembersInside (now calls) (now queue) ⌝ }
     ensures { λ r.
-        ⌜ (now (calls .exit) ≡ wake (now (calls .entry)) (queueOf (now (queue .entry)))) × (r ≡ length (queueOf (now (queue .entry)))) ⌝ }
+        ⌜ (now (calls .exit) ≡ wake (now (calls .entry)) (queueOf (now (queue .entry))))
+        × (r ≡ length (queueOf (now (queue .entry)))) ⌝ }
 {
     let end = queue[0] as usize;
     let mut i = 0;
@@ -43,7 +44,8 @@ fn is_due(calls: &[u64], t: usize, clock: usize) -> bool
 fn wake_those_due(calls: &mut [u64], queue: &[u8], clock: usize) -> usize
     requires { ⌜ MembersInside (now calls) (now queue) ⌝ }
     ensures { λ r.
-        ⌜ (now (calls .exit) ≡ wake (now (calls .entry)) (keep (due (now (calls .entry)) clock) (queueOf (now (queue .entry))))) × (r ≡ length (keep (due (now (calls .entry)) clock) (queueOf (now (queue .entry))))) ⌝ }
+        ⌜ (now (calls .exit) ≡ wake (now (calls .entry)) (keep (due (now (calls .entry)) clock) (queueOf (now (queue .entry)))))
+        × (r ≡ length (keep (due (now (calls .entry)) clock) (queueOf (now (queue .entry))))) ⌝ }
 {
     let end = queue[0] as usize;
     let mut woken = 0;
@@ -64,7 +66,9 @@ fn keep_waiting(calls: &[u64], queue: &mut [u8], clock: usize)
     requires { ⌜ QueueReady (now queue) ⌝ }
     requires { ⌜ MembersInside (now calls) (now queue) ⌝ }
     ensures { λ r.
-        ⌜ now (queue .exit) ≡ putQueue (length (now (queue .entry)) - 1) (keep (λ t. not (due (now (calls .entry)) clock t)) (queueOf (now (queue .entry)))) ⌝ }
+        ⌜ now (queue .exit)
+        ≡ putQueue (length (now (queue .entry)) - 1)
+        (keep (λ t. not (due (now (calls .entry)) clock t)) (queueOf (now (queue .entry)))) ⌝ }
 {
     let end = queue[0] as usize;
     let mut kept = 0;

@@ -1,4 +1,4 @@
--- Laws of what is kept of a list, and of a list with zeros behind it.
+-- Laws of what is kept of a list, of a list with zeros behind it, of a list that is gone through in place, and of a run of stores.
 -- Assumes nothing.
 use mathlib.Core.Path.{_≡_, refl, sym, _∙_, ap}
 use mathlib.Core.Bool.{Bool, true, false, cond}
@@ -79,7 +79,7 @@ pad-set n x xs h =
     let e : n - length xs ≡ suc (n - (length xs + 1)) = omega arith in
     rw (e, length-append) (set-at xs 0 _ x (length xs) refl ∙ sym (append-snoc xs x _))
 
--- where zeros alone stand behind n places, the list is its first n with zeros behind them
+-- where every place from n on holds zero, as many zeros stand there
 pub zeros-behind :
     (n : ℕ) (xs : List ℕ) → ((i : ℕ) → n ≤ i → i < length xs → getD xs i 0 ≡ 0) → drop n xs ≡ replicate (length xs - n) 0
 zeros-behind n xs z =
@@ -109,6 +109,7 @@ pad-join n xs ys h k z =
     let e : n - length xs + (length ys - n) ≡ length ys - length xs = omega arith in
     rw (zeros-behind n ys z) (append-assoc xs _ _ ∙ rw (replicate-append-replicate, e))
 
+-- such a list is its first n with zeros behind them
 pub pad-take :
     (n : ℕ) (xs : List ℕ) → n ≤ length xs → ((i : ℕ) → n ≤ i → i < length xs → getD xs i 0 ≡ 0) →
     xs ≡ pad (length xs) (take n xs)

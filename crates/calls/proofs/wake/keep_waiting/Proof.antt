@@ -92,7 +92,7 @@ cast-queue c =
 slice-write-queue-3 : tie.Need-slice-write-queue-3 Inv-loop μ-loop
 slice-write-queue-3 c =
     let l = c .before in
-    (omega (arith, staying-length (l .before .before .before .before .pre .0) (l .loop .inv .1) (l .loop .inv .0)))
+    omega (arith, staying-length (l .before .before .before .before .pre .0) (l .loop .inv .1) (l .loop .inv .0))
 
 same-length : tie.Need-same-length Inv-loop μ-loop
 same-length c =
