@@ -1,0 +1,31 @@
+-- What validity says of one level's free list, from the level's own parts of the tables.
+-- Assumes nothing.
+use mathlib.Core.Bool.{Bool, _&&_, _||_}
+use mathlib.Core.List.{List}
+use Prim.Native.Nat.{ℕ}
+use lib.ListN.{length, getD}
+use lib.Dec.{leb, ltb, eqb}
+use Rattle.laws.specs.Tests.{bit, every}
+use Rattle.laws.specs.Lists.{times}
+use Rattle.rules.specs.Numbers.{FREE}
+
+-- every cell holds zero
+abbrev pub zeros : List ℕ → Bool
+zeros cells = every (length cells) (λ i. eqb (getD cells i 0) 0)
+
+-- every member is below n
+abbrev pub below : List ℕ → ℕ → Bool
+below members n = every (length members) (λ i. ltb (getD members i 0) n)
+
+-- the list is as long as its cells at most, and the places behind its end hold zero
+abbrev pub ends : List ℕ → ℕ → Bool
+ends cells used = leb used (length cells) && every (length cells) (λ i. ltb i used || eqb (getD cells i 0) 0)
+
+-- block b of the level is FREE
+abbrev pub free : List ℕ → ℕ → Bool
+free states b = eqb (getD states b 0) FREE
+
+-- the members name each FREE block once and nothing else
+abbrev pub listed : List ℕ → List ℕ → Bool
+listed states members =
+    below members (length states) && every (length states) (λ b. eqb (times b members) (bit (free states b)))
