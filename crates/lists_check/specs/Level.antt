@@ -1,9 +1,10 @@
 -- What validity says of one level's free list, from the level's own parts of the tables.
 -- Assumes nothing.
+use mathlib.Core.Path.{_≡_}
 use mathlib.Core.Bool.{Bool, _&&_, _||_}
 use mathlib.Core.List.{List}
-use Prim.Native.Nat.{ℕ}
-use lib.ListN.{length, getD}
+use Prim.Native.Nat.{ℕ, _≤_}
+use lib.ListN.{length, getD, take}
 use lib.Dec.{leb, ltb, eqb}
 use Rattle.laws.specs.Tests.{bit, every}
 use Rattle.laws.specs.Lists.{times}
@@ -29,3 +30,14 @@ free states b = eqb (getD states b 0) FREE
 abbrev pub listed : List ℕ → List ℕ → Bool
 listed states members =
     below members (length states) && every (length states) (λ b. eqb (times b members) (bit (free states b)))
+
+-- the level's list, of which the first cells are used, is as validity says
+unfoldable pub levelValid : List ℕ → List ℕ → ℕ → Bool
+levelValid states cells used = ends cells used && listed states (take used cells)
+
+-- the parts of the tables that belong to one level, and marks for its blocks, none set
+pub record OneLevel (states cells marks : List ℕ) : Type 0 where
+  pub most : length states ≤ 4096
+  pub cells-long : length cells ≡ length states
+  pub marks-long : length marks ≡ length states
+  pub unset : (b : ℕ) → getD marks b 0 ≡ 0

@@ -7,7 +7,7 @@ ghost use lib.ListN.{length, getD, take};
 ghost use lib.Dec.{eqb, ltb};
 ghost use Rattle.laws.specs.Tests.{bit, every, tally};
 ghost use Rattle.laws.specs.Lists.{times};
-ghost use Rattle.lists_check.specs.Level.{zeros, below, ends, free, listed};
+ghost use Rattle.lists_check.specs.Level.{zeros, below, free, OneLevel, levelValid};
 
 // Whether every cell holds zero.
 fn all_zero(cells: &[u16]) -> bool
@@ -73,4 +73,27 @@ fn agree(states: &[u8], marks: &[u8]) -> bool
         i += 1;
     }
     ok
+}
+
+// What validity says of one level's list: its cells, how many are used, and unset marks for the level's blocks.
+fn level_valid(states: &[u8], cells: &[u16], used: u16, marks: &mut [u8]) -> bool
+    requires { ⌜ OneLevel (now states) (now cells) (now marks) ⌝ }
+    ensures { λ r. ⌜ r ≡ levelValid (now (states .entry)) (now (cells .entry)) used ⌝ }
+{
+    let end = used as usize;
+    if cells.len() < end {
+        return false;
+    }
+    if !all_zero(&cells[end..]) {
+        return false;
+    }
+    let members = &cells[..end];
+    if !all_below(members, states.len() as u16) {
+        return false;
+    }
+    if used != count_free(states) {
+        return false;
+    }
+    mark(members, marks);
+    agree(states, marks)
 }
