@@ -1,5 +1,5 @@
 pub mod Tests
 pub mod Lists
-pub mod Times
 pub mod Keep
 pub mod Sums
+pub mod Times

@@ -84,10 +84,7 @@ level-rest :
     && every (length states) (λ b. eqb (bit (ltb 0 (times b (take used cells)))) (bit (free states b))))
 unfolding levelValid
 level-rest {states} {cells} {used} t =
-    rw (ends-zeros cells used (t .fits), t .rest, t .inside, times-once (length states) (free states) (take used cells) each, length-take-le used cells (t .fits))
-  where
-    each : (i : ℕ) → i < length (take used cells) → getD (take used cells) i 0 < length states
-    each i l = ltb-true _ _ (every-at _ (λ i. ltb (getD (take used cells) i 0) (length states)) (t .inside) i l)
+    rw (ends-zeros cells used (t .fits), t .rest, t .inside, times-once (length states) (free states) (take used cells) (t .inside), length-take-le used cells (t .fits))
 
 -- more members or fewer
 pub level-count :
