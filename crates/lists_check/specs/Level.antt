@@ -1,13 +1,16 @@
 -- What validity says of one level's free list, from the level's own parts of the tables.
 -- Assumes nothing.
 use mathlib.Core.Path.{_≡_}
-use mathlib.Core.Bool.{Bool, _&&_, _||_}
+use mathlib.Core.Bool.{Bool, true, _&&_, _||_}
 use mathlib.Core.List.{List}
-use Prim.Native.Nat.{ℕ, _≤_}
+use Prim.Native.Nat.{ℕ, _+_, _≤_}
 use lib.ListN.{length, getD, take}
 use lib.Dec.{leb, ltb, eqb}
 use Rattle.laws.specs.Tests.{bit, every}
 use Rattle.laws.specs.Lists.{times}
+use Rattle.shape.specs.declared.Shape.{Shape}
+use Rattle.shape.specs.Limits.{allowed}
+use Rattle.shape.specs.Blocks.{blocks}
 use Rattle.rules.specs.Numbers.{FREE}
 
 -- every cell holds zero
@@ -41,3 +44,11 @@ pub record OneLevel (states cells marks : List ℕ) : Type 0 where
   pub cells-long : length cells ≡ length states
   pub marks-long : length marks ≡ length states
   pub unset : (b : ℕ) → getD marks b 0 ≡ 0
+
+-- the tables of a shape, and marks for all its blocks, none set
+pub record AllLevels (s : Shape) (states lists marks : List ℕ) : Type 0 where
+  pub shape : allowed s ≡ true
+  pub states-long : length states ≡ blocks s
+  pub lists-long : length lists ≡ s .levels + blocks s
+  pub marks-long : blocks s ≤ length marks
+  pub unset : (k : ℕ) → getD marks k 0 ≡ 0

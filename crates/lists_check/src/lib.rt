@@ -1,13 +1,17 @@
 // Decides what validity says of the free lists, in time linear in the tables.
 use rules;
+use shape::Shape;
 ghost use mathlib.Core.Path.{_≡_};
 ghost use mathlib.Core.Bool.{true, _&&_};
-ghost use Prim.Native.Nat.{ℕ, _<_, _≤_};
+ghost use Prim.Native.Nat.{ℕ, _+_, _<_, _≤_};
 ghost use lib.ListN.{length, getD, take};
 ghost use lib.Dec.{eqb, ltb};
 ghost use Rattle.laws.specs.Tests.{bit, every, tally};
 ghost use Rattle.laws.specs.Lists.{times};
-ghost use Rattle.lists_check.specs.Level.{zeros, below, free, OneLevel, levelValid};
+ghost use Rattle.shape.specs.Limits.{allowed};
+ghost use Rattle.shape.specs.Blocks.{blocks};
+ghost use Rattle.rules.specs.Valid.{listEnds, freeListed};
+ghost use Rattle.lists_check.specs.Level.{zeros, below, free, OneLevel, AllLevels, levelValid};
 
 // Whether every cell holds zero.
 fn all_zero(cells: &[u16]) -> bool
@@ -96,4 +100,30 @@ fn level_valid(states: &[u8], cells: &[u16], used: u16, marks: &mut [u8]) -> boo
     }
     mark(members, marks);
     agree(states, marks)
+}
+
+// The lists of all levels, with unset marks for all blocks.
+fn levels_valid(s: Shape, states: &[u8], lists: &[u16], marks: &mut [u8]) -> bool
+    requires { ⌜ AllLevels s (now states) (now lists) (now marks) ⌝ }
+    ensures { λ r. ⌜ r ≡ (listEnds s (now (lists .entry)) && freeListed s (now (states .entry)) (now (lists .entry))) ⌝ }
+{
+    let levels = s.levels;
+    let mut level = 0;
+    let mut from = 0;
+    while level < levels {
+        let to = from + s.count(level);
+        let start = levels + from;
+        let end = levels + to;
+        if !level_valid(
+            &states[from..to],
+            &lists[start..end],
+            lists[level],
+            &mut marks[from..to],
+        ) {
+            return false;
+        }
+        from = to;
+        level += 1;
+    }
+    true
 }
