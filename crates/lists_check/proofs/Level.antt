@@ -8,12 +8,12 @@ use native.Mathlib.Decide.{decLt}
 use native.Mathlib.Omega.{arith}
 use lib.ListN.{length, getD, take, drop, length-drop}
 use lib.Seq.{getD-drop, length-take-le, take-all}
-use lib.Dec.{eqb, ltb, leb}
-use borrow.Author.Tests.{ltb-true, eq-eqb, ne-eqb, le-ltb, lt-ltb, le-leb, lt-leb}
+use lib.Dec.{eqb, ltb}
+use borrow.Author.Tests.{eq-eqb, ne-eqb, le-ltb, lt-ltb, le-leb, lt-leb}
 use Rattle.laws.specs.Tests.{bit, every, every-at, every-of, every-same, tally}
 use Rattle.laws.specs.Lists.{times}
 use Rattle.laws.specs.Times.{same-test, times-once}
-use Rattle.lists_check.specs.Level.{zeros, below, ends, free, listed, levelValid, OneLevel}
+use Rattle.lists_check.specs.Level.{zeros, below, ends, free, levelValid}
 
 -- a list longer than its cells
 pub level-long : (states cells : List ℕ) (used : ℕ) → length cells < used → false ≡ levelValid states cells used

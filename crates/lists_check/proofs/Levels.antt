@@ -2,24 +2,25 @@
 -- Assumes nothing.
 use mathlib.Core.Path.{_≡_, refl, sym, _∙_, ap, ap₂}
 use mathlib.Core.Bool.{Bool, true, false, _&&_, _||_}
-use mathlib.Core.List.{List, _++_}
+use mathlib.Core.List.{List}
 use Prim.Native.Nat.{ℕ, _+_, _-_, _≤_, _<_}
 use native.Mathlib.Decide.{decLt}
 use native.Mathlib.Omega.{arith}
-use lib.ListN.{length, getD, take, drop, length-take, length-drop, List·getD-eq-default}
+use lib.ListN.{length, getD, take, drop, length-take, length-drop, List·getD-eq-default, replicate, length-replicate, getD-replicate}
 use lib.Seq.{getD-drop, getD-take, length-take-le, take-take}
 use lib.Dec.{eqb, ltb, leb}
 use borrow.Rule.Slice.PartMut.{putMid, drop-put, same-len-mid}
-use borrow.Author.Tests.{leb-true, lt-leb}
+use borrow.Author.Tests.{leb-true}
 use Rattle.laws.specs.Tests.{bit, every, every-none, every-more, every-not, every-same, every-both, both-of}
 use Rattle.laws.specs.Lists.{times}
 use Rattle.shape.specs.declared.Shape.{Shape}
-use Rattle.shape.specs.Blocks.{count, above, place, blocks}
+use Rattle.shape.specs.Limits.{allowed}
+use Rattle.shape.specs.Blocks.{count, above, blocks}
 use Rattle.shape.specs.Laws.{limits, above-none, above-next, above-up, count-range, blocks-most}
 use Rattle.rules.specs.Numbers.{FREE}
 use Rattle.rules.specs.Tables.{stateAt, section, freeList}
 use Rattle.rules.specs.Valid.{listEnds, freeListed}
-use Rattle.lists_check.specs.Level.{zeros, below, ends, free, listed, levelValid, OneLevel, AllLevels}
+use Rattle.lists_check.specs.Level.{levelValid, OneLevel, AllLevels}
 
 -- a part of a table
 abbrev pub part : List ℕ → ℕ → ℕ → List ℕ
@@ -218,3 +219,21 @@ pub levels-end :
 levels-end {s} {states} {lists} {level = level} r h =
     let q : level ≡ s .levels = omega (arith, r .inside) in
     sym (r .valid) ∙ (ap (λ (n : ℕ). every n (validAt s states lists)) q ∙ lines s states lists)
+
+-- an array of zeros serves as marks
+pub tables :
+    (s : Shape) (states lists : List ℕ) (n : ℕ) →
+    (allowed s ≡ true) × (length states ≡ blocks s) × (length lists ≡ s .levels + blocks s) → blocks s ≤ n →
+    AllLevels s states lists (replicate n 0)
+tables s states lists n h k =
+    record {
+      shape = h .0;
+      states-long = h .1;
+      lists-long = h .2;
+      marks-long = rw length-replicate k;
+      unset = λ k. pick k (decLt k n);
+    }
+  where
+    pick : (k : ℕ) → Dec (k < n) → _≡_ {A = ℕ} (getD (replicate n 0) k 0) 0
+    pick k (yes l) = getD-replicate n k 0 0 l
+    pick k (no l) = List·getD-eq-default (replicate n 0) 0 (rw length-replicate (omega arith))

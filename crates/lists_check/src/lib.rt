@@ -4,7 +4,7 @@ use shape::Shape;
 ghost use mathlib.Core.Path.{_≡_};
 ghost use mathlib.Core.Bool.{true, _&&_};
 ghost use Prim.Native.Nat.{ℕ, _+_, _<_, _≤_};
-ghost use lib.ListN.{length, getD, take};
+ghost use lib.ListN.{length, getD};
 ghost use lib.Dec.{eqb, ltb};
 ghost use Rattle.laws.specs.Tests.{bit, every, tally};
 ghost use Rattle.laws.specs.Lists.{times};
@@ -12,6 +12,9 @@ ghost use Rattle.shape.specs.Limits.{allowed};
 ghost use Rattle.shape.specs.Blocks.{blocks};
 ghost use Rattle.rules.specs.Valid.{listEnds, freeListed};
 ghost use Rattle.lists_check.specs.Level.{zeros, below, free, OneLevel, AllLevels, levelValid};
+
+// How many blocks a pool of few blocks has at the most: fewer marks are then unset.
+const FEW_BLOCKS: usize = 341;
 
 // Whether every cell holds zero.
 fn all_zero(cells: &[u16]) -> bool
@@ -126,4 +129,17 @@ fn levels_valid(s: Shape, states: &[u8], lists: &[u16], marks: &mut [u8]) -> boo
         level += 1;
     }
     true
+}
+
+// Whether the free lists are as validity says: each names its level's FREE blocks once and nothing else, with zeros behind its end.
+pub fn lists_valid(s: Shape, states: &[u8], lists: &[u16]) -> bool
+    requires { ⌜ (allowed s ≡ true) × (length (now states) ≡ blocks s) × (length (now lists) ≡ s .levels + blocks s) ⌝ }
+    ensures { λ r. ⌜ r ≡ (listEnds s (now (lists .entry)) && freeListed s (now (states .entry)) (now (lists .entry))) ⌝ }
+{
+    if states.len() <= FEW_BLOCKS {
+        let mut marks = [0u8; FEW_BLOCKS];
+        return levels_valid(s, states, lists, &mut marks);
+    }
+    let mut marks = [0u8; Shape::MOST_BLOCKS];
+    levels_valid(s, states, lists, &mut marks)
 }

@@ -1,9 +1,8 @@
 -- `lists_check::agree` meets its contract: the flag is the test of every block passed.
 -- Assumes nothing.
 use native.Mathlib.Omega.{arith}
-use mathlib.Core.Path.{_≡_, sym, ap}
-use mathlib.Core.Bool.{Bool, true, false}
-use Prim.Native.Nat.{ℕ, _≤_, _-_}
+use mathlib.Core.Path.{_≡_, sym}
+use Prim.Native.Nat.{_≤_, _-_}
 use lib.ListN.{length, getD}
 use lib.Dec.{eqb}
 use Rattle.laws.specs.Tests.{bit, every, every-none}

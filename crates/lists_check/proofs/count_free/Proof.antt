@@ -2,11 +2,10 @@
 -- Assumes nothing.
 use native.Mathlib.Omega.{arith}
 use mathlib.Core.Path.{_≡_, sym}
-use Prim.Native.Nat.{ℕ, _≤_, _-_}
+use Prim.Native.Nat.{_≤_, _-_}
 use lib.ListN.{length}
-use Rattle.laws.specs.Tests.{bit-most, tally, tally-none, tally-more, tally-most}
-use Rattle.lists_check.specs.Level.{free}
 use Rattle.laws.specs.Tests.{tally, tally-none}
+use Rattle.lists_check.specs.Level.{free}
 use Rattle.lists_check.proofs.Laws.{count-more, count-fits, count-end}
 use Rattle.lists_check.proofs.count_free.Statement.{statement}
 use Rattle.lists_check.proofs.count_free.Tie as tie

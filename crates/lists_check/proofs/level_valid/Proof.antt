@@ -1,7 +1,7 @@
 -- `lists_check::level_valid` meets its contract: what validity says of one level, in the order in which the code tries it.
 -- Assumes nothing.
 use borrow.Author.Needs.{needs}
-use mathlib.Core.Path.{_≡_, sym, _∙_}
+use mathlib.Core.Path.{sym, _∙_}
 use lib.Seq.{length-take-le}
 use borrow.Author.Tests.{not-true, not-false}
 use Rattle.lists_check.proofs.Level.{level-long, level-zeros, level-below, Tried, level-count, level-marks}

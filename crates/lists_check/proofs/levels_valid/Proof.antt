@@ -1,7 +1,7 @@
 -- `lists_check::levels_valid` meets its contract: the levels passed are as validity says, and the marks of the others are not set.
 -- Assumes nothing.
 use native.Mathlib.Omega.{arith}
-use mathlib.Core.Path.{_≡_, sym, _∙_}
+use mathlib.Core.Path.{sym, _∙_}
 use Prim.Native.Nat.{_-_}
 use borrow.Author.Tests.{not-true, not-false}
 use Rattle.lists_check.proofs.Levels.{Reached, Room, reached-none, room, one-level, levels-fail, levels-more, levels-end}

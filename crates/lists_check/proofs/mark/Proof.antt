@@ -2,9 +2,8 @@
 -- Assumes nothing.
 use native.Mathlib.Omega.{arith}
 use borrow.Author.Needs.{needs}
-use mathlib.Core.Path.{_≡_}
-use Prim.Native.Nat.{ℕ, _-_}
-use lib.ListN.{length, getD}
+use Prim.Native.Nat.{_-_}
+use lib.ListN.{length}
 use Rattle.lists_check.proofs.Laws.{Marked, mark-none, mark-at, mark-more, mark-end}
 use Rattle.lists_check.proofs.mark.Statement.{statement}
 use Rattle.lists_check.proofs.mark.Tie as tie
