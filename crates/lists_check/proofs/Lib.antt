@@ -1,0 +1,3 @@
+pub mod Laws
+pub mod Level
+pub mod Levels
