@@ -1,9 +1,13 @@
 // What is said of one call by itself.
-ghost use mathlib.Core.Path.{_≡_};
-ghost use mathlib.Core.Bool.{true};
-ghost use Prim.Native.Nat.{_<_, _^_};
-ghost use Rattle.rules.specs.Valid.{usesWait, usesBlock, fieldsUsed, deadlineKept, mayWait};
 use rules::Call;
+use shape::Shape;
+ghost use mathlib.Core.Path.{_≡_};
+ghost use mathlib.Core.Bool.{true, not, _||_};
+ghost use Prim.Native.Nat.{_<_, _^_};
+ghost use lib.Dec.{leb, eqb};
+ghost use Rattle.shape.specs.Limits.{allowed};
+ghost use Rattle.shape.specs.Blocks.{levelFor};
+ghost use Rattle.rules.specs.Valid.{usesWait, usesBlock, fieldsUsed, handInside, deadlineKept, mayWait, callKept};
 
 // The longest wait in ticks.
 const LONGEST: usize = 60000;
@@ -37,6 +41,29 @@ fn fields_used(c: Call) -> bool
         & (block | (c.block == 0))
 }
 
+// Whether a block in hand is a block of the shape.
+fn hand_inside(s: Shape, c: Call) -> bool
+    requires { ⌜ allowed s ≡ true ⌝ }
+    ensures { λ r. ⌜ r ≡ handInside s c ⌝ }
+{
+    if !uses_block(c) {
+        return true;
+    }
+    let level = c.level;
+    if s.levels <= level {
+        return false;
+    }
+    c.block < s.count(level)
+}
+
+// Whether the level of a call at this stage is not deeper than its target.
+fn not_deeper(s: Shape, stage: usize, c: Call) -> bool
+    requires { ⌜ allowed s ≡ true ⌝ }
+    ensures { λ r. ⌜ r ≡ (not (eqb (c .stage) stage) || leb (c .level) (levelFor s (c .size))) ⌝ }
+{
+    (c.stage != stage) | (c.level <= s.level_for(c.size))
+}
+
 // Whether a timed deadline is not too far, and above the clock while waiting.
 fn deadline_kept(clock: usize, c: Call) -> bool
     requires { ⌜ clock < 2 ^ 32 ⌝ }
@@ -51,4 +78,18 @@ fn may_wait(c: Call) -> bool
     ensures { λ r. ⌜ r ≡ mayWait c ⌝ }
 {
     (c.stage != rules::WAITING) | (c.wait != rules::NEVER)
+}
+
+// Whether all that is said of one call holds.
+pub fn call_kept(s: Shape, clock: usize, c: Call) -> bool
+    requires { ⌜ (allowed s ≡ true) × (clock < 2 ^ 32) ⌝ }
+    ensures { λ r. ⌜ r ≡ callKept s clock c ⌝ }
+{
+    fields_used(c)
+        & hand_inside(s, c)
+        & not_deeper(s, rules::DIVIDING, c)
+        & (c.size <= s.top_size)
+        & not_deeper(s, rules::FOUND, c)
+        & deadline_kept(clock, c)
+        & may_wait(c)
 }
