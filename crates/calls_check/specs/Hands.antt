@@ -5,7 +5,7 @@ use mathlib.Core.Bool.{Bool, true, false, _&&_, _||_, false≢true}
 use mathlib.Core.List.{List}
 use Prim.Native.Nat.{ℕ, zero, suc, _+_, _*_, _≤_, _<_}
 use native.Mathlib.Omega.{arith}
-use lib.ListN.{length, getD, set}
+use lib.ListN.{length, getD, set, replicate}
 use lib.Seq.{getD-set-same, getD-set-other}
 use lib.Dec.{eqb, ltb}
 use borrow.Author.Tests.{ltb-true, eqb-true, eqb-false, eq-eqb, ne-eqb}
@@ -29,6 +29,13 @@ pub kept-inside : (s : Shape) (clock : ℕ) (calls : List ℕ) → callsKept s c
 unfolding handsInside
 kept-inside s clock calls e = every-of (s .threads) _ (λ t h. call-facts s clock calls e t h .hand)
 
+-- so the block in hand of a thread's call is a block of the shape
+pub hand-at :
+    (s : Shape) (calls : List ℕ) (t : ℕ) (c : Call) → handsInside s calls ≡ true → t < s .threads → c ≡ callOf calls t →
+    usesBlock c ≡ true → (c .level < s .levels) × (c .block < count s (c .level))
+unfolding handsInside
+hand-at s calls t c e h q u = hand-inside s c (rw q (every-at (s .threads) _ e t h)) u
+
 -- a mark: 1 for a dividing call or an ALLOCATING block, 16 for a releasing call or a FREEING block
 abbrev pub mark : Bool → Bool → ℕ
 mark one other = bit one + 16 * bit other
@@ -43,9 +50,8 @@ handMarks calls t l b =
     tally t (λ u. inHand DIVIDING l b (callOf calls u)) + 16 * tally t (λ u. inHand RELEASING l b (callOf calls u))
 
 -- each block of the shape bears the marks of the first t calls
-abbrev pub Marked : Shape → List ℕ → ℕ → List ℕ → Type 0
-Marked s calls t marks =
-    (l b : ℕ) → l < s .levels → b < count s l → getD marks (place s l b) 0 ≡ handMarks calls t l b
+pub record Marked (s : Shape) (calls : List ℕ) (t : ℕ) (marks : List ℕ) : Type 0 where
+  pub at : (l b : ℕ) → l < s .levels → b < count s l → getD marks (place s l b) 0 ≡ handMarks calls t l b
 
 handMarks-none : (calls : List ℕ) (l b : ℕ) → handMarks calls 0 l b ≡ 0
 unfolding handMarks
@@ -97,26 +103,38 @@ handMark-other c l b e =
     go true x y h = h
     go false x y h = refl
 
+-- one mark more fits a byte
+pub marks-fit :
+    (s : Shape) (calls marks : List ℕ) (t l b x : ℕ) → Marked s calls t marks → (l < s .levels) × (b < count s l) →
+    t ≤ 8 → x ≤ 17 → getD marks (place s l b) 0 + x < 256
+marks-fit s calls marks t l b x m (i, j) h k = omega (arith, m .at l b i j, handMarks-most calls t l b)
+
+-- a row of zeros holds no mark
+pub zeros : (n k : ℕ) → _≡_ {A = ℕ} (getD (replicate n 0) k 0) 0
+zeros zero k = refl
+zeros (suc n) zero = refl
+zeros (suc n) (suc k) = zeros n k
+
 -- before any call
 pub marked-none : (s : Shape) (calls marks : List ℕ) → ((k : ℕ) → getD marks k 0 ≡ 0) → Marked s calls 0 marks
-marked-none s calls marks h l b i j = h (place s l b) ∙ sym (handMarks-none calls l b)
+marked-none s calls marks h = record { at = λ l b i j. h (place s l b) ∙ sym (handMarks-none calls l b) }
 
 -- a call without a block in hand
 pub marked-skip :
     (s : Shape) (calls marks : List ℕ) (t : ℕ) → Marked s calls t marks → usesBlock (callOf calls t) ≡ false →
     Marked s calls (t + 1) marks
-marked-skip s calls marks t m e l b i j =
-    omega (arith, m l b i j, handMarks-more calls t l b, handMark-none (callOf calls t) l b e)
+marked-skip s calls marks t m e =
+    record { at = λ l b i j. omega (arith, m .at l b i j, handMarks-more calls t l b, handMark-none (callOf calls t) l b e) }
 
 -- a call with one
 pub marked-more :
-    (s : Shape) (calls marks : List ℕ) (t : ℕ) (c : Call) → Marked s calls t marks → callOf calls t ≡ c →
-    c .level < s .levels → c .block < count s (c .level) → blocks s ≤ length marks →
+    (s : Shape) (calls marks : List ℕ) (t : ℕ) (c : Call) → Marked s calls t marks → c ≡ callOf calls t →
+    (c .level < s .levels) × (c .block < count s (c .level)) → blocks s ≤ length marks →
     Marked s calls (t + 1)
     (set marks (place s (c .level) (c .block))
     (getD marks (place s (c .level) (c .block)) 0 + mark (eqb (c .stage) DIVIDING) (eqb (c .stage) RELEASING)))
-marked-more s calls marks t c m e hl hb n l b i j =
-    go (eqb (c .level) l) refl (eqb (c .block) b) refl
+marked-more s calls marks t c m e (hl, hb) n =
+    record { at = λ l b i j. go l b i j (eqb (c .level) l) refl (eqb (c .block) b) refl }
   where
     p : ℕ
     p = place s (c .level) (c .block)
@@ -124,24 +142,31 @@ marked-more s calls marks t c m e hl hb n l b i j =
     v : ℕ
     v = getD marks p 0 + mark (eqb (c .stage) DIVIDING) (eqb (c .stage) RELEASING)
 
-    next : handMarks calls (t + 1) l b ≡ handMarks calls t l b + handMark c l b
-    next = rw (← e) (handMarks-more calls t l b)
+    next : (l b : ℕ) → handMarks calls (t + 1) l b ≡ handMarks calls t l b + handMark c l b
+    next l b = rw e (handMarks-more calls t l b)
 
-    same : c .level ≡ l → c .block ≡ b → getD (set marks p v) (place s l b) 0 ≡ handMarks calls (t + 1) l b
-    same q r =
-        rw (next, ← q, ← r, getD-set-same marks p v 0 (omega (arith, place-inside s (c .level) (c .block) hl hb)), handMark-same, m (c .level) (c .block) hl hb)
+    same : (l b : ℕ) → c .level ≡ l → c .block ≡ b → getD (set marks p v) (place s l b) 0 ≡ handMarks calls (t + 1) l b
+    same l b q r =
+        rw (next, ← q, ← r, getD-set-same marks p v 0 (omega (arith, place-inside s (c .level) (c .block) hl hb)), handMark-same, m .at (c .level) (c .block) hl hb)
 
-    other : (eqb (c .level) l && eqb (c .block) b) ≡ false → (place s l b ≡ p → ⊥) → getD (set marks p v) (place s l b) 0 ≡ handMarks calls (t + 1) l b
-    other f d =
-        omega (arith, next, handMark-other c l b f, m l b i j, getD-set-other marks p (place s l b) v 0 d)
+    other :
+        (l b : ℕ) → l < s .levels → b < count s l → (eqb (c .level) l && eqb (c .block) b) ≡ false →
+        (place s l b ≡ p → ⊥) → getD (set marks p v) (place s l b) 0 ≡ handMarks calls (t + 1) l b
+    other l b i j f d =
+        omega (arith, next l b, handMark-other c l b f, m .at l b i j, getD-set-other marks p (place s l b) v 0 d)
 
-    apart : (c .level ≡ l) × (c .block ≡ b) → place s l b ≡ p
-    apart (q, r) = rw (q, r)
+    go :
+        (l b : ℕ) → l < s .levels → b < count s l → (x : Bool) → eqb (c .level) l ≡ x → (y : Bool) →
+        eqb (c .block) b ≡ y → getD (set marks p v) (place s l b) 0 ≡ handMarks calls (t + 1) l b
+    go l b i j true q true r = same l b (eqb-true _ _ q) (eqb-true _ _ r)
+    go l b i j true q false r =
+        other l b i j (rw (q, r)) (λ z. eqb-false _ _ r (place-once s (c .level) (c .block) l b hb j (sym z) .1))
+    go l b i j false q y r =
+        other l b i j (rw q) (λ z. eqb-false _ _ q (place-once s (c .level) (c .block) l b hb j (sym z) .0))
 
-    go : (x : Bool) → eqb (c .level) l ≡ x → (y : Bool) → eqb (c .block) b ≡ y → getD (set marks p v) (place s l b) 0 ≡ handMarks calls (t + 1) l b
-    go true q true r = same (eqb-true _ _ q) (eqb-true _ _ r)
-    go true q false r = other (rw (q, r)) (λ z. eqb-false _ _ r (place-once s (c .level) (c .block) l b hb j (sym z) .1))
-    go false q y r = other (rw q) (λ z. eqb-false _ _ q (place-once s (c .level) (c .block) l b hb j (sym z) .0))
+-- as many calls as there are threads
+pub marked-all : {s : Shape} {calls marks : List ℕ} {t n : ℕ} → t ≡ n → Marked s calls t marks → Marked s calls n marks
+marked-all e m = record { at = λ l b i j. rw (← e) (m .at l b i j) }
 
 -- two counts below sixteen in one number
 digits :
@@ -155,15 +180,17 @@ digits a c x y h = go (eqb a (bit x)) refl (eqb c (bit y)) refl
 
 -- where every call is marked, marks agree with states just where both correspondences hold
 pub marks-agree :
-    (s : Shape) (states calls marks : List ℕ) → s .threads ≤ 8 → Marked s calls (s .threads) marks →
-    every (blocks s) (λ k. eqb (getD marks k 0) (mark (eqb (getD states k 0) ALLOCATING) (eqb (getD states k 0) FREEING)))
+    (s : Shape) (states calls marks : List ℕ) → length states ≡ blocks s → s .threads ≤ 8 →
+    Marked s calls (s .threads) marks →
+    every (length states) (λ k. eqb (getD marks k 0) (mark (eqb (getD states k 0) ALLOCATING) (eqb (getD states k 0) FREEING)))
     ≡ (oneToOne ALLOCATING DIVIDING s states calls && oneToOne FREEING RELEASING s states calls)
 unfolding oneToOne handMarks blocks
-marks-agree s states calls marks h m =
-    sym (every-place s (s .levels) _)
+marks-agree s states calls marks n h m =
+    rw n
+    (sym (every-place s (s .levels) _)
     ∙ every-same (s .levels) _ _ (λ l i.
     every-same (count s l) _ _ (λ b j.
-    rw (m l b i j)
+    rw (m .at l b i j)
     (digits _ _ (eqb (stateAt s states l b) ALLOCATING) (eqb (stateAt s states l b) FREEING) (omega (arith, tally-most (s .threads) (λ t. inHand DIVIDING l b (callOf calls t))))))
     ∙ every-both (count s l) _ _)
-    ∙ every-both (s .levels) _ _
+    ∙ every-both (s .levels) _ _)
