@@ -1,0 +1,99 @@
+// Decides what validity says of the free lists, in time linear in the tables.
+use rules;
+ghost use mathlib.Core.Path.{_≡_};
+ghost use mathlib.Core.Bool.{true, _&&_};
+ghost use Prim.Native.Nat.{ℕ, _<_, _≤_};
+ghost use lib.ListN.{length, getD, take};
+ghost use lib.Dec.{eqb, ltb};
+ghost use Rattle.laws.specs.Tests.{bit, every, tally};
+ghost use Rattle.laws.specs.Lists.{times};
+ghost use Rattle.lists_check.specs.Level.{zeros, below, free, OneLevel, levelValid};
+
+// Whether every cell holds zero.
+fn all_zero(cells: &[u16]) -> bool
+    ensures { λ r. ⌜ r ≡ zeros (now (cells .entry)) ⌝ }
+{
+    let mut ok = true;
+    let mut i = 0;
+    while i < cells.len() {
+        ok = ok & (cells[i] == 0);
+        i += 1;
+    }
+    ok
+}
+
+// Whether every member is below a bound.
+fn all_below(members: &[u16], bound: u16) -> bool
+    ensures { λ r. ⌜ r ≡ below (now (members .entry)) bound ⌝ }
+{
+    let mut ok = true;
+    let mut i = 0;
+    while i < members.len() {
+        ok = ok & (members[i] < bound);
+        i += 1;
+    }
+    ok
+}
+
+// How many blocks of a level are FREE.
+fn count_free(states: &[u8]) -> u16
+    requires { ⌜ length (now states) ≤ 4096 ⌝ }
+    ensures { λ r. ⌜ r ≡ tally (length (now (states .entry))) (free (now (states .entry))) ⌝ }
+{
+    let mut sum: u16 = 0;
+    let mut i = 0;
+    while i < states.len() {
+        sum = sum + (states[i] == rules::FREE) as u16;
+        i += 1;
+    }
+    sum
+}
+
+// Marks the blocks that a list names.
+fn mark(members: &[u16], marks: &mut [u8])
+    requires { ⌜ (below (now members) (length (now marks)) ≡ true) × ((b : ℕ) → getD (now marks) b 0 ≡ 0) ⌝ }
+    ensures { λ r. ⌜ ((b : ℕ) → b < length (now (marks .entry)) → getD (now (marks .exit)) b 0 ≡ bit (ltb 0 (times b (now (members .entry))))) ⌝ }
+{
+    let mut i = 0;
+    while i < members.len() {
+        marks[members[i] as usize] = 1;
+        i += 1;
+    }
+}
+
+// Whether the blocks marked are those that are FREE.
+fn agree(states: &[u8], marks: &[u8]) -> bool
+    requires { ⌜ length (now marks) ≡ length (now states) ⌝ }
+    ensures { λ r. ⌜ r ≡ every (length (now (states .entry))) (λ b. eqb (getD (now (marks .entry)) b 0) (bit (free (now (states .entry)) b))) ⌝ }
+{
+    let mut ok = true;
+    let mut i = 0;
+    while i < states.len() {
+        ok = ok & (marks[i] == (states[i] == rules::FREE) as u8);
+        i += 1;
+    }
+    ok
+}
+
+// What validity says of one level's list: its cells, how many are used, and unset marks for the level's blocks.
+fn level_valid(states: &[u8], cells: &[u16], used: u16, marks: &mut [u8]) -> bool
+    requires { ⌜ OneLevel (now states) (now cells) (now marks) ⌝ }
+    ensures { λ r. ⌜ r ≡ levelValid (now (states .entry)) (now (cells .entry)) used ⌝ }
+{
+    let end = used as usize;
+    if cells.len() < end {
+        return false;
+    }
+    if !all_zero(&cells[end..]) {
+        return false;
+    }
+    let members = &cells[..end];
+    if !all_below(members, states.len() as u16) {
+        return false;
+    }
+    if used != count_free(states) {
+        return false;
+    }
+    mark(members, marks);
+    agree(states, marks)
+}
