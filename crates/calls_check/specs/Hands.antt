@@ -1,15 +1,15 @@
 -- Blocks in hand: the marks that calls leave on them, and that marks agree with states where both correspondences hold.
 -- Assumes nothing.
-use mathlib.Core.Path.{_≡_, refl, sym, _∙_, ap, ap₂}
+use mathlib.Core.Path.{_≡_, refl, sym, _∙_, ap₂}
 use mathlib.Core.Bool.{Bool, true, false, _&&_, _||_, false≢true}
 use mathlib.Core.List.{List}
 use Prim.Native.Nat.{ℕ, zero, suc, _+_, _*_, _≤_, _<_}
 use native.Mathlib.Omega.{arith}
 use lib.ListN.{length, getD, set, replicate}
 use lib.Seq.{getD-set-same, getD-set-other}
-use lib.Dec.{eqb, ltb}
-use borrow.Author.Tests.{ltb-true, eqb-true, eqb-false, eq-eqb, ne-eqb}
-use Rattle.laws.specs.Tests.{bit, every, tally, both, every-at, every-of, every-same, every-both, bit-most, tally-more, tally-none, tally-most}
+use lib.Dec.{eqb}
+use borrow.Author.Tests.{eqb-true, eqb-false, eq-eqb, ne-eqb}
+use Rattle.laws.specs.Tests.{bit, every, tally, every-at, every-of, every-same, every-both, bit-most, tally-more, tally-none, tally-most}
 use Rattle.shape.specs.declared.Shape.{Shape}
 use Rattle.shape.specs.Blocks.{count, place, blocks}
 use Rattle.shape.specs.Laws.{place-inside, place-once}
@@ -168,6 +168,10 @@ marked-more s calls marks t c m e (hl, hb) n =
 pub marked-all : {s : Shape} {calls marks : List ℕ} {t n : ℕ} → t ≡ n → Marked s calls t marks → Marked s calls n marks
 marked-all e m = record { at = λ l b i j. rw (← e) (m .at l b i j) }
 
+-- the mark at a place is its state's
+abbrev pub agrees : List ℕ → List ℕ → ℕ → Bool
+agrees states marks k = eqb (getD marks k 0) (mark (eqb (getD states k 0) ALLOCATING) (eqb (getD states k 0) FREEING))
+
 -- two counts below sixteen in one number
 digits :
     (a c : ℕ) (x y : Bool) → a < 16 → eqb (a + 16 * c) (mark x y) ≡ (eqb a (bit x) && eqb c (bit y))
@@ -182,7 +186,7 @@ digits a c x y h = go (eqb a (bit x)) refl (eqb c (bit y)) refl
 pub marks-agree :
     (s : Shape) (states calls marks : List ℕ) → length states ≡ blocks s → s .threads ≤ 8 →
     Marked s calls (s .threads) marks →
-    every (length states) (λ k. eqb (getD marks k 0) (mark (eqb (getD states k 0) ALLOCATING) (eqb (getD states k 0) FREEING)))
+    every (length states) (agrees states marks)
     ≡ (oneToOne ALLOCATING DIVIDING s states calls && oneToOne FREEING RELEASING s states calls)
 unfolding oneToOne handMarks blocks
 marks-agree s states calls marks n h m =

@@ -6,12 +6,11 @@ ghost use mathlib.Core.Path.{_≡_};
 ghost use mathlib.Core.Bool.{true};
 ghost use Prim.Native.Nat.{ℕ, _*_, _≤_};
 ghost use lib.ListN.{length, getD};
-ghost use lib.Dec.{eqb};
 ghost use Rattle.laws.specs.Tests.{every};
 ghost use Rattle.shape.specs.Limits.{allowed};
 ghost use Rattle.shape.specs.Blocks.{blocks};
-ghost use Rattle.rules.specs.Numbers.{CELLS, FREEING, ALLOCATING};
-ghost use Rattle.calls_check.specs.Hands.{handsInside, mark, Marked};
+ghost use Rattle.rules.specs.Numbers.{CELLS};
+ghost use Rattle.calls_check.specs.Hands.{handsInside, mark, Marked, agrees};
 
 // A mark: 1 for a dividing call or an ALLOCATING block, 16 for a releasing call or a FREEING block.
 fn mark(one: bool, other: bool) -> u8
@@ -40,7 +39,7 @@ pub fn mark_hands(s: Shape, calls: &[u64], marks: &mut [u8])
 // Whether the marks of the first blocks are those of their states.
 pub fn marks_agree(states: &[u8], marks: &[u8]) -> bool
     requires { ⌜ length (now states) ≤ length (now marks) ⌝ }
-    ensures { λ r. ⌜ r ≡ every (length (now (states .entry))) (λ k. eqb (getD (now (marks .entry)) k 0) (mark (eqb (getD (now (states .entry)) k 0) ALLOCATING) (eqb (getD (now (states .entry)) k 0) FREEING))) ⌝ }
+    ensures { λ r. ⌜ r ≡ every (length (now (states .entry))) (agrees (now (states .entry)) (now (marks .entry))) ⌝ }
 {
     let mut ok = true;
     let mut k = 0;

@@ -1,18 +1,14 @@
 -- `calls_check::calls_valid` meets its contract: the flag says of the threads passed whether each call is kept.
 -- Assumes nothing.
-use native.Mathlib.Omega.{arith}
 use mathlib.Core.Path.{_≡_, sym, _∙_}
-use Prim.Native.Nat.{ℕ, _+_, _-_, _≤_}
+use Prim.Native.Nat.{_-_, _≤_}
+use native.Mathlib.Omega.{arith}
 use Rattle.laws.specs.Tests.{every, every-none, every-more}
 use Rattle.rules.specs.Tables.{callOf}
 use Rattle.rules.specs.Valid.{callKept, callsKept}
-use mathlib.Core.Path.{_≡_, sym, _∙_, ap}
-use mathlib.Core.Bool.{Bool}
+use Rattle.calls_check.proofs.Laws.{passed}
 use Rattle.calls_check.proofs.calls_valid.Statement.{statement}
 use Rattle.calls_check.proofs.calls_valid.Tie as tie
-
-passed : (m n : ℕ) (f : ℕ → Bool) → m ≡ n → every m f ≡ every n f
-passed m n f e = rw e
 
 abbrev Inv-loop : tie.InvT-loop
 Inv-loop s clock calls ok₀ t₀ ok t = (t ≤ s .threads) × (ok ≡ every t (λ u. callKept s clock (callOf calls u)))
@@ -41,8 +37,7 @@ loop-again c = (omega arith, rw every-more (cc))
 returns : tie.Need-returns Inv-loop μ-loop
 unfolding callsKept
 returns c =
-    let e : c .before .before .loop .t ≡ c .before .before .before .before .args .s .threads = omega arith in
-    c .before .before .loop .inv .1 ∙ passed _ _ _ e
+    c .before .before .loop .inv .1 ∙ passed _ _ _ (omega arith)
 
 pub calls-valid-spec : {M : Type 1} → statement M
 calls-valid-spec =

@@ -1,9 +1,9 @@
 -- `calls_check::hands_valid` meets its contract: where every block in hand is marked, the marks agree with the states just where both
 -- correspondences hold.
 -- Assumes nothing.
+use mathlib.Core.Path.{_∙_}
 use native.Mathlib.Omega.{arith}
 use borrow.Author.Needs.{needs}
-use mathlib.Core.Path.{_∙_}
 use Rattle.shape.specs.Laws.{limits, blocks-most}
 use Rattle.calls_check.specs.Hands.{marks-agree, zeros}
 use Rattle.calls_check.proofs.hands_valid.Statement.{statement}

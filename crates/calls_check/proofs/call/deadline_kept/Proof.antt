@@ -1,8 +1,8 @@
 -- `calls_check::call::deadline_kept` meets its contract: the tests are the definition's own, and the longest wait is 60,000 ticks.
 -- Assumes nothing.
 use borrow.Author.Needs.{needs}
-use Rattle.rules.specs.Valid.{deadlineKept}
 use Rattle.shape.specs.Time.{ticks, longest}
+use Rattle.rules.specs.Valid.{deadlineKept}
 use Rattle.calls_check.proofs.call.deadline_kept.Statement.{statement}
 use Rattle.calls_check.proofs.call.deadline_kept.Tie as tie
 

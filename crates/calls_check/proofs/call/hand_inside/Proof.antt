@@ -2,7 +2,6 @@
 -- may the block's number.
 -- Assumes nothing.
 use borrow.Author.Needs.{needs}
-use mathlib.Core.Path.{_≡_, refl, sym, _∙_}
 use borrow.Author.Tests.{lt-ltb, le-ltb}
 use Rattle.rules.specs.Valid.{handInside}
 use Rattle.calls_check.proofs.call.hand_inside.Statement.{statement}

@@ -1,9 +1,9 @@
 -- `calls_check::hands::mark_hands` meets its contract: each block bears the marks of the calls passed. A call without a block in hand
 -- marks nothing; the block in hand of any other gets that call's mark, and no other block stands at its place.
 -- Assumes nothing.
-use native.Mathlib.Omega.{arith}
 use mathlib.Core.Path.{_≡_, refl, sym, _∙_}
-use Prim.Native.Nat.{ℕ, _-_, _≤_, _<_}
+use Prim.Native.Nat.{_-_, _≤_, _<_}
+use native.Mathlib.Omega.{arith}
 use lib.ListN.{length, length-set}
 use Rattle.shape.specs.Blocks.{count}
 use Rattle.shape.specs.Laws.{limits}
@@ -23,12 +23,15 @@ inside :
     (c .before .before .call-of .result .level < c .before .before .before .before .before .before .before .before .args .s .levels)
     × (c .before .before .call-of .result .block < count (c .before .before .before .before .before .before .before .before .args .s) (c .before .before .call-of .result .level))
 inside c =
-    hand-at (c .before .before .before .before .before .before .before .before .args .s) (c .before .before .before .before .before .before .before .before .args .calls .now) (c .before .before .before .before .before .loop .t) (c .before .before .call-of .result)
-    (c .before .before .before .before .before .before .before .before .pre .0 .2) (omega arith) (c .before .before .call-of .ensures)
-    (sym (c .before .uses-block .ensures) ∙ c .if2 .taken)
+    let a = c .before .before .before .before .before .before .before .before in
+    let call = c .before .before .call-of in
+    hand-at (a .args .s) (a .args .calls .now) (c .before .before .before .before .before .loop .t) (call .result) (a .pre .0 .2)
+    (omega arith) (call .ensures) (sym (c .before .uses-block .ensures) ∙ c .if2 .taken)
 
 loop-holds : tie.Need-loop-holds Inv-loop μ-loop
-loop-holds c = (omega arith, refl, marked-none (c .before .before .args .s) (c .before .before .args .calls .now) (c .before .before .args .marks .now) (c .before .before .pre .1 .1))
+loop-holds c =
+    let a = c .before .before in
+    (omega arith, refl, marked-none (a .args .s) (a .args .calls .now) (a .args .marks .now) (a .pre .1 .1))
 
 call-of-requires : tie.Need-call-of-requires Inv-loop μ-loop
 call-of-requires c κs = omega arith
@@ -50,10 +53,14 @@ slice-read-marks c = omega arith
 
 add-marks : tie.Need-add-marks Inv-loop μ-loop
 add-marks c =
+    let hand = c .before .before .before .before .before in
+    let turn = hand .before .before .before .before .before .loop in
     record {
       fits =
           rw (c .before .before .before .before .place .ensures .0)
-          (marks-fit _ _ _ (c .before .before .before .before .before .before .before .before .before .before .loop .t) _ _ _ (c .before .before .before .before .before .before .before .before .before .before .loop .inv .2) (inside (c .before .before .before .before .before)) (omega (arith, limits _ (c .before .before .before .before .before .before .before .before .before .before .before .before .before .pre .0 .0))) (c .before .mark .ensures .1));
+          (marks-fit _ _ _ (turn .t) _ _ _ (turn .inv .2) (inside hand)
+          (omega (arith, limits _ (hand .before .before .before .before .before .before .before .before .pre .0 .0)))
+          (c .before .mark .ensures .1));
     }
 
 slice-write-marks : tie.Need-slice-write-marks Inv-loop μ-loop
@@ -63,22 +70,28 @@ loop-less : tie.Need-loop-less Inv-loop μ-loop
 loop-less c = omega arith
 
 loop-again : tie.Need-loop-again Inv-loop μ-loop
-loop-again c = (
-  omega arith,
-  simp length-set (omega arith),
-  rw (c .before .before .before .before .place .ensures .0, c .before .mark .ensures .0)
-      (marked-more _ _ _ (c .before .before .before .before .before .before .before .before .before .before .loop .t) (c .before .before .before .before .before .before .before .call-of .result) (c .before .before .before .before .before .before .before .before .before .before .loop .inv .2) (c .before .before .before .before .before .before .before .call-of .ensures) (inside (c .before .before .before .before .before)) (omega arith)),
-)
+loop-again c =
+    let hand = c .before .before .before .before .before in
+    let turn = hand .before .before .before .before .before .loop in
+    let call = hand .before .before .call-of in (
+      omega arith,
+      simp length-set (omega arith),
+      rw (c .before .before .before .before .place .ensures .0, c .before .mark .ensures .0)
+          (marked-more _ _ _ (turn .t) (call .result) (turn .inv .2) (call .ensures) (inside hand)
+          (omega (arith, hand .before .before .before .before .before .before .before .before .pre .1 .0))),
+    )
 
 loop-less-2 : tie.Need-loop-less-2 Inv-loop μ-loop
 loop-less-2 c = omega arith
 
 loop-again-2 : tie.Need-loop-again-2 Inv-loop μ-loop
-loop-again-2 c = (
-  omega arith,
-  omega arith,
-  marked-skip _ _ _ (c .before .before .before .before .before .loop .t) (c .before .before .before .before .before .loop .inv .2) (rw (← c .before .before .call-of .ensures, ← c .before .uses-block .ensures) (c .if2 .left)),
-)
+loop-again-2 c =
+    let turn = c .before .before .before .before .before .loop in (
+      omega arith,
+      omega arith,
+      marked-skip _ _ _ (turn .t) (turn .inv .2)
+          (rw (← c .before .before .call-of .ensures, ← c .before .uses-block .ensures) (c .if2 .left)),
+    )
 
 same-length : tie.Need-same-length Inv-loop μ-loop
 same-length c = omega arith

@@ -1,21 +1,14 @@
 -- `calls_check::hands::marks_agree` meets its contract: the flag says of the blocks passed whether each mark is its state's.
 -- Assumes nothing.
-use native.Mathlib.Omega.{arith}
 use mathlib.Core.Path.{_≡_, sym, _∙_}
-use mathlib.Core.Bool.{Bool}
-use mathlib.Core.List.{List}
-use Prim.Native.Nat.{ℕ, _+_, _-_, _≤_}
-use lib.ListN.{length, getD}
-use lib.Dec.{eqb}
+use Prim.Native.Nat.{_-_, _≤_}
+use native.Mathlib.Omega.{arith}
+use lib.ListN.{length}
 use Rattle.laws.specs.Tests.{every, every-none, every-more}
-use Rattle.rules.specs.Numbers.{FREEING, ALLOCATING}
-use Rattle.calls_check.specs.Hands.{mark}
+use Rattle.calls_check.specs.Hands.{agrees}
+use Rattle.calls_check.proofs.Laws.{passed}
 use Rattle.calls_check.proofs.hands.marks_agree.Statement.{statement}
 use Rattle.calls_check.proofs.hands.marks_agree.Tie as tie
-
--- the mark at a place is its state's
-abbrev agrees : List ℕ → List ℕ → ℕ → Bool
-agrees states marks k = eqb (getD marks k 0) (mark (eqb (getD states k 0) ALLOCATING) (eqb (getD states k 0) FREEING))
 
 abbrev Inv-loop : tie.InvT-loop
 Inv-loop states marks ok₀ k₀ ok k = (k ≤ length states) × (ok ≡ every k (agrees states marks))
@@ -46,8 +39,7 @@ loop-again c = (omega arith, rw (every-more, ← c .before .before .before .befo
 
 returns : tie.Need-returns Inv-loop μ-loop
 returns c =
-    let e : c .before .loop .k ≡ length (c .before .before .before .before .args .states .now) = omega arith in
-    rw (← e) (c .before .loop .inv .1)
+    c .before .loop .inv .1 ∙ passed _ _ _ (omega arith)
 
 pub marks-agree-spec : {M : Type 1} → statement M
 marks-agree-spec =
