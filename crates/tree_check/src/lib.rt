@@ -1,4 +1,4 @@
-// Whether states and owners are those of a valid state: the lines of document 01 about blocks, decided by passes without branches.
+// The lines of validity about blocks: their states, their owners and the tree that they form, decided by passes without branches.
 use shape::Shape;
 ghost use mathlib.Core.Path.{_≡_};
 ghost use mathlib.Core.Bool.{true, not, _&&_};
@@ -10,11 +10,16 @@ ghost use Rattle.shape.specs.Limits.{allowed};
 ghost use Rattle.shape.specs.Blocks.{above, blocks};
 ghost use Rattle.rules.specs.Valid.{statesKnown, ownersKnown, partsExist, buddiesMerged};
 ghost use Rattle.tree_check.specs.Tree.{treeValid};
+ghost use Rattle.tree_check.specs.Words.{wordAt};
+
+// A one in each of the four cells of a word.
+const EACH: u32 = 0x01010101;
 
 // Whether no cell between two places holds a value.
 fn none_is(cells: &[u8], from: usize, to: usize, value: u8) -> bool
     requires { ⌜ (from ≤ to) × (to ≤ length (now cells)) ⌝ }
-    ensures { λ r. ⌜ r ≡ every (to - from) (λ i. not (eqb (getD (now (cells .entry)) (from + i) 0) value)) ⌝ }
+    ensures { λ r.
+        ⌜ r ≡ every (to - from) (λ i. not (eqb (getD (now (cells .entry)) (from + i) 0) value)) ⌝ }
 {
     let mut ok = true;
     let mut i = from;
@@ -48,9 +53,25 @@ fn owners_known(s: Shape, states: &[u8], owners: &[u8]) -> bool
     ok
 }
 
-// Whether the parts of a DIVIDED block exist and are not all FREE, and those of any other block do not exist.
+// Four cells from a place on as one number, the first lowest: a read of one word.
+fn word_at(cells: &[u8], at: usize) -> u32
+    requires { ⌜ at + 4 ≤ length (now cells) ⌝ }
+    ensures { λ r. ⌜ r ≡ wordAt (now (cells .entry)) at ⌝ }
+{
+    let a = cells[at] as u32;
+    let b = cells[at + 1] as u32;
+    let c = cells[at + 2] as u32;
+    let d = cells[at + 3] as u32;
+    ((d * 256 + c) * 256 + b) * 256 + a
+}
+
+// Whether the parts of a DIVIDED block exist and are not all FREE, and those of any other block do not exist. Of the states
+// NOEXIST alone has its two lowest bits set.
 fn parts_kept(s: Shape, states: &[u8], parents: usize) -> bool
-    requires { ⌜ (allowed s ≡ true) × (length (now states) ≡ blocks s) × (parents ≡ above s (s .levels - 1)) ⌝ }
+    requires { ⌜ (allowed s ≡ true)
+        × (length (now states) ≡ blocks s)
+        × (statesKnown s (now states) ≡ true)
+        × (parents ≡ above s (s .levels - 1)) ⌝ }
     ensures { λ r.
         ⌜ r ≡ (partsExist s (now (states .entry)) && buddiesMerged s (now (states .entry))) ⌝ }
 {
@@ -58,21 +79,11 @@ fn parts_kept(s: Shape, states: &[u8], parents: usize) -> bool
     let mut ok = true;
     let mut i = 0;
     while i < parents {
-        let divided = states[i] == rules::DIVIDED;
-        let first = tops + Shape::PARTS * i;
-        let a = states[first];
-        let b = states[first + 1];
-        let c = states[first + 2];
-        let d = states[first + 3];
-        let agree = ((a != rules::NOEXIST) == divided)
-            & ((b != rules::NOEXIST) == divided)
-            & ((c != rules::NOEXIST) == divided)
-            & ((d != rules::NOEXIST) == divided);
-        let all_free = (a == rules::FREE)
-            & (b == rules::FREE)
-            & (c == rules::FREE)
-            & (d == rules::FREE);
-        ok = ok & (agree & !all_free);
+        let word = word_at(states, tops + Shape::PARTS * i);
+        let missing = word & (word >> 1) & EACH;
+        let expected = ((states[i] != rules::DIVIDED) as u32) * EACH;
+        let all_free = (rules::FREE as u32) * EACH;
+        ok = ok & ((missing == expected) & (word != all_free));
         i += 1;
     }
     ok

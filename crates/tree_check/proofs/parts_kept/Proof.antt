@@ -1,21 +1,27 @@
--- `tree_check::parts_kept` meets its contract: the flag says what holds of the blocks passed and their parts.
+-- `tree_check::parts_kept` meets its contract: the flag says what holds of the blocks passed and their parts, which a word holds together.
 -- Assumes nothing.
-use mathlib.Core.Path.{_≡_, sym, _∙_}
-use mathlib.Core.Bool.{Bool, true, not, _&&_, Bool·beq}
+use mathlib.Core.Path.{_≡_, sym, _∙_, ap}
+use mathlib.Core.Bool.{Bool, true, false, not, _&&_}
 use mathlib.Core.List.{List}
-use Prim.Native.Nat.{ℕ, _+_, _*_, _-_, _≤_}
+use Prim.Native.Nat.{ℕ, _+_, _*_, _-_, _/_, _≤_, _<_}
 use native.Mathlib.Omega.{arith}
 use lib.ListN.{length, getD}
 use lib.Dec.{eqb}
-use Rattle.laws.specs.Tests.{every, every-more, every-none}
+use lib.Bits.{bitAnd}
+use mir.Val.{Fits, boolByte}
+use mir.Syntax.{w32}
+use borrow.Author.Tests.{leb-true}
+use Rattle.tree_check.specs.Words.{wordAt}
+use Rattle.laws.specs.Tests.{every, every-more, every-none, every-at}
 use Rattle.shape.specs.declared.Shape.{Shape}
 use Rattle.shape.specs.Limits.{parts, allowed}
 use Rattle.shape.specs.Blocks.{above, blocks}
 use Rattle.shape.specs.Laws.{limits}
 use Rattle.shape.specs.Levels.{blocks-parts}
 use Rattle.rules.specs.Numbers.{DIVIDED}
-use Rattle.rules.specs.Valid.{partsExist, buddiesMerged}
-use Rattle.tree_check.proofs.Parts.{kept, kept-all, quarters, kept-quarters}
+use Rattle.rules.specs.Valid.{statesKnown, partsExist, buddiesMerged}
+use Rattle.tree_check.proofs.Parts.{kept, kept-all, kept-quarters}
+use Rattle.tree_check.proofs.Words.{word-kept}
 use Rattle.tree_check.proofs.parts_kept.Statement.{statement}
 use Rattle.tree_check.proofs.parts_kept.Tie as tie
 
@@ -23,23 +29,46 @@ room : (s : Shape) (n : ℕ) → allowed s ≡ true → n ≡ above s (s .levels
 unfolding parts
 room s n h e = rw e (sym (blocks-parts s (limits s h .levels .0)))
 
-more :
-    (n : ℕ) (states : List ℕ) (i : ℕ) (ok : Bool) → ok ≡ every i (kept 4 n states) →
-    (ok
-    && quarters
-    (eqb (getD states i 0) DIVIDED)
-    (getD states (n + 4 * i) 0)
-    (getD states (n + 4 * i + 1) 0)
-    (getD states (n + 4 * i + 2) 0)
-    (getD states (n + 4 * i + 3) 0))
-    ≡ every (i + 1) (kept 4 n states)
-more n states i ok e = rw (every-more, kept-quarters, ← e)
-
 whole :
     (s : Shape) (states : List ℕ) (i : ℕ) → i ≡ above s (s .levels - 1) →
     every i (kept 4 (s .tops) states) ≡ (partsExist s states && buddiesMerged s states)
 unfolding parts
 whole s states i e = rw e (kept-all s states)
+
+fits : (u : Bool) → Fits w32 (boolByte u * 16843009)
+fits true = omega arith
+fits false = omega arith
+
+known :
+    (s : Shape) (states : List ℕ) (at : ℕ) → statesKnown s states ≡ true → at + 4 ≤ blocks s →
+    (getD states at 0 ≤ 5)
+    × (getD states (at + 1) 0 ≤ 5)
+    × (getD states (at + 2) 0 ≤ 5)
+    × (getD states (at + 3) 0 ≤ 5)
+unfolding statesKnown
+known s states at e h = (state at (omega arith), state (at + 1) (omega arith), state (at + 2) (omega arith), state (at + 3) (omega arith))
+  where
+    state : (k : ℕ) → k < blocks s → getD states k 0 ≤ 5
+    state k l = leb-true _ _ (every-at (blocks s) _ e k l)
+
+more :
+    (s : Shape) (states : List ℕ) (i : ℕ) (ok : Bool) (w : ℕ) → statesKnown s states ≡ true → s .tops + 4 * i + 4 ≤ blocks s →
+    w ≡ wordAt states (s .tops + 4 * i) → ok ≡ every i (kept 4 (s .tops) states) →
+    (ok
+    && (eqb (bitAnd (bitAnd w (w / 2)) 16843009) (boolByte (not (eqb (getD states i 0) DIVIDED)) * 16843009)
+    && not (eqb w 16843009)))
+    ≡ every (i + 1) (kept 4 (s .tops) states)
+unfolding wordAt
+more s states i ok w k h q e =
+    rw (every-more, kept-quarters, q, ← e)
+    (ap (λ (t : Bool). ok && t)
+    (word-kept
+    (eqb (getD states i 0) DIVIDED)
+    (getD states (s .tops + 4 * i) 0)
+    (getD states (s .tops + 4 * i + 1) 0)
+    (getD states (s .tops + 4 * i + 2) 0)
+    (getD states (s .tops + 4 * i + 3) 0)
+    (known s states (s .tops + 4 * i) k h)))
 
 abbrev Inv-loop : tie.InvT-loop
 Inv-loop states parents tops ok₀ i₀ ok i = (i ≤ parents) × (tops + 4 * parents ≡ length states) × (ok ≡ every i (kept 4 tops states))
@@ -48,37 +77,32 @@ abbrev μ-loop : tie.MeasureT-loop
 μ-loop states parents tops ok₀ i₀ ok i = parents - i
 
 loop-holds : tie.Need-loop-holds Inv-loop μ-loop
-loop-holds c = (omega arith, room _ _ (c .pre .0) (c .pre .2) ∙ sym (c .pre .1), sym (every-none _))
+loop-holds c = (omega arith, room _ _ (c .before .pre .0) (c .before .pre .3) ∙ sym (c .before .pre .1), sym (every-none _))
 
-shared-slice-read-divided : tie.Need-shared-slice-read-divided Inv-loop μ-loop
-shared-slice-read-divided c = omega arith
+mul-word-at : tie.Need-mul-word-at Inv-loop μ-loop
+mul-word-at c = omega arith
 
-mul-first : tie.Need-mul-first Inv-loop μ-loop
-mul-first c = omega arith
+add-word-at : tie.Need-add-word-at Inv-loop μ-loop
+add-word-at c = omega arith
 
-add-first : tie.Need-add-first Inv-loop μ-loop
-add-first c = omega arith
+word-at-requires : tie.Need-word-at-requires Inv-loop μ-loop
+word-at-requires c κs = omega arith
 
-shared-slice-read-a : tie.Need-shared-slice-read-a Inv-loop μ-loop
-shared-slice-read-a c = omega arith
+shared-slice-read-expected : tie.Need-shared-slice-read-expected Inv-loop μ-loop
+shared-slice-read-expected c = omega arith
 
-add-b : tie.Need-add-b Inv-loop μ-loop
-add-b c = omega arith
+cast-expected : tie.Need-cast-expected Inv-loop μ-loop
+cast-expected c = tt
 
-shared-slice-read-b : tie.Need-shared-slice-read-b Inv-loop μ-loop
-shared-slice-read-b c = omega arith
+mul-expected : tie.Need-mul-expected Inv-loop μ-loop
+mul-expected c =
+    fits (not (eqb (getD (c .before .before .before .before .before .args .states .now) (c .before .before .before .loop .i) 0) DIVIDED))
 
-add-c : tie.Need-add-c Inv-loop μ-loop
-add-c c = omega arith
+cast-all-free : tie.Need-cast-all-free Inv-loop μ-loop
+cast-all-free c = omega arith
 
-shared-slice-read-c : tie.Need-shared-slice-read-c Inv-loop μ-loop
-shared-slice-read-c c = omega arith
-
-add-d : tie.Need-add-d Inv-loop μ-loop
-add-d c = omega arith
-
-shared-slice-read-d : tie.Need-shared-slice-read-d Inv-loop μ-loop
-shared-slice-read-d c = omega arith
+mul-all-free : tie.Need-mul-all-free Inv-loop μ-loop
+mul-all-free c = omega arith
 
 add-i : tie.Need-add-i Inv-loop μ-loop
 add-i c = omega arith
@@ -87,7 +111,20 @@ loop-less : tie.Need-loop-less Inv-loop μ-loop
 loop-less c = omega arith
 
 loop-again : tie.Need-loop-again Inv-loop μ-loop
-loop-again c = (omega arith, omega arith, more _ _ _ _ (c .before .before .before .before .before .before .loop .inv .2))
+loop-again c = (
+  omega arith,
+  omega arith,
+  more
+      (c .before .before .before .before .before .args .s)
+      (c .before .before .before .before .before .args .states .now)
+      (c .before .before .before .loop .i)
+      (c .before .before .before .loop .ok)
+      (c .before .word-at .result)
+      (c .before .before .before .before .before .pre .2)
+      (omega arith)
+      (c .before .word-at .ensures)
+      (c .before .before .before .loop .inv .2),
+)
 
 returns : tie.Need-returns Inv-loop μ-loop
 returns c = c .before .loop .inv .2 ∙ whole _ _ _ (omega arith)
@@ -99,16 +136,14 @@ parts-kept-spec =
     Inv-loop
     μ-loop
     loop-holds
-    shared-slice-read-divided
-    mul-first
-    add-first
-    shared-slice-read-a
-    add-b
-    shared-slice-read-b
-    add-c
-    shared-slice-read-c
-    add-d
-    shared-slice-read-d
+    mul-word-at
+    add-word-at
+    word-at-requires
+    shared-slice-read-expected
+    cast-expected
+    mul-expected
+    cast-all-free
+    mul-all-free
     add-i
     loop-less
     loop-again

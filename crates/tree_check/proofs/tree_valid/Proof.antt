@@ -4,6 +4,7 @@ use borrow.Author.Needs.{needs}
 use native.Mathlib.Omega.{arith}
 use borrow.Author.Tests.{not-true, not-false}
 use mathlib.Core.Path.{sym, _∙_}
+use Rattle.laws.specs.Tests.{both}
 use Rattle.shape.specs.Laws.{limits}
 use Rattle.tree_check.proofs.Passes.{tops-room, deepest-room, tops-pass, deepest-pass, no-owners, no-tops, no-deepest, all}
 use Rattle.tree_check.proofs.tree_valid.Statement.{statement}
@@ -34,7 +35,12 @@ returns-3 : tie.Need-returns-3
 returns-3 c = no-deepest _ _ _ (sym (deepest-pass _ _ _ (c .before .before .before .before .before .before .before .before .before .before .pre .0) (c .before .before .before .before .before .before .before .before .before .before .pre .1) (c .before .before .above .ensures .0)) ∙ sym (c .before .none-is2 .ensures) ∙ not-true _ (c .if3 .taken))
 
 parts-kept-requires : tie.Need-parts-kept-requires
-parts-kept-requires c κs = search needs
+parts-kept-requires c κs = (
+  c .before .before .before .before .before .before .before .before .before .before .pre .0,
+  c .before .before .before .before .before .before .before .before .before .before .pre .1,
+  both _ _ (sym (c .before .before .before .before .before .before .before .owners-known .ensures) ∙ not-false _ (c .before .before .before .before .before .before .if1 .left)) .0,
+  c .before .before .above .ensures .0,
+)
 
 returns-4 : tie.Need-returns-4
 returns-4 c =
