@@ -1,4 +1,5 @@
 pub mod Tests
 pub mod Lists
+pub mod Sums
 pub mod Keep
 pub mod Rows

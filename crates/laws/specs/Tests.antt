@@ -114,3 +114,8 @@ unfolding tally
 tally-same zero f g h = refl
 tally-same (suc n) f g h =
     ap₂ _+_ (tally-same n f g (λ k l. h k (lt-trans l (lt-suc-self n)))) (ap bit (h n (lt-suc-self n)))
+
+-- a test that cannot pass fails
+pub fails : (b : Bool) → (b ≡ true → ⊥) → false ≡ b
+fails true h = absurd (h refl)
+fails false h = refl

@@ -8,9 +8,9 @@ use lib.ListN.{length, getD, set, replicate}
 use lib.Dec.{leb, ltb, eqb}
 use Rattle.laws.specs.Lists.{keep}
 use Rattle.shape.specs.declared.Shape.{Shape}
-use Rattle.shape.specs.declared.Millis.{Millis}
-use Rattle.shape.specs.declared.Wait.{Wait}
-use Rattle.shape.specs.declared.Wait.the-variants.{Never, Forever, Timed, Outside}
+use Rattle.shape.specs.declared.time.Millis.{Millis}
+use Rattle.shape.specs.declared.time.Wait.{Wait}
+use Rattle.shape.specs.declared.time.Wait.the-variants.{Never, Forever, Timed, Outside}
 use Rattle.shape.specs.Limits.{allowed}
 use Rattle.shape.specs.Blocks.{count, place, idPool, idLevel, idBlock}
 use Rattle.shape.specs.Time.{wait}

@@ -2,6 +2,7 @@ pub mod Numbers
 pub mod Answers
 pub mod Tables
 pub mod Valid
+pub mod Facts
 pub mod Steps
 pub mod Calls
 pub mod Questions

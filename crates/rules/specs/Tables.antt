@@ -37,11 +37,11 @@ lengths s T =
     && eqb (length (T .queue)) (s .threads + 1)
 
 -- the state of block b of level l
-unfoldable pub stateAt : Shape → List ℕ → ℕ → ℕ → ℕ
+abbrev pub stateAt : Shape → List ℕ → ℕ → ℕ → ℕ
 stateAt s states l b = getD states (place s l b) 0
 
 -- where the list of level l stands: its length at place l, its members behind the lengths, a section for each level
-unfoldable pub section : Shape → ℕ → ℕ
+abbrev pub section : Shape → ℕ → ℕ
 section s l = s .levels + above s l
 
 unfoldable pub freeList : Shape → List ℕ → ℕ → List ℕ

@@ -15,7 +15,7 @@ unfoldable pub count : Shape → ℕ → ℕ
 count s l = s .tops * parts s ^ l
 
 -- where block b of level l starts
-unfoldable pub offset : Shape → ℕ → ℕ → ℕ
+abbrev pub offset : Shape → ℕ → ℕ → ℕ
 offset s l b = b * size s l
 
 -- the deepest level from l upward whose size is at least the request
@@ -28,16 +28,16 @@ unfoldable pub levelFor : Shape → ℕ → ℕ
 levelFor s request = levelFrom s (s .levels - 1) request
 
 -- a block's id: fields of 8, 4 and 20 bits, lowest first
-unfoldable pub id : Shape → ℕ → ℕ → ℕ
+abbrev pub id : Shape → ℕ → ℕ → ℕ
 id s l b = s .pool + 256 * l + 4096 * b
 
-unfoldable pub idPool : ℕ → ℕ
+abbrev pub idPool : ℕ → ℕ
 idPool i = i % 256
 
-unfoldable pub idLevel : ℕ → ℕ
+abbrev pub idLevel : ℕ → ℕ
 idLevel i = i / 256 % 16
 
-unfoldable pub idBlock : ℕ → ℕ
+abbrev pub idBlock : ℕ → ℕ
 idBlock i = i / 4096
 
 -- how many blocks lie above level l; a level's blocks stand together in the tables, level 0 first
@@ -46,7 +46,7 @@ above s zero = 0
 above s (suc l) = above s l + count s l
 
 -- the place of block b of level l in the tables
-unfoldable pub place : Shape → ℕ → ℕ → ℕ
+abbrev pub place : Shape → ℕ → ℕ → ℕ
 place s l b = above s l + b
 
 -- how many blocks all levels have together
@@ -54,5 +54,5 @@ unfoldable pub blocks : Shape → ℕ
 blocks s = above s (s .levels)
 
 -- how many bytes the pool has
-unfoldable pub bytes : Shape → ℕ
+abbrev pub bytes : Shape → ℕ
 bytes s = s .tops * s .«top_size»

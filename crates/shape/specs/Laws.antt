@@ -4,7 +4,7 @@ use mathlib.Core.Path.{_≡_, refl, sym, _∙_, ap}
 use mathlib.Core.Bool.{Bool, true, false, _&&_, cond}
 use mathlib.Core.Logic.{_⊎_, inl, inr}
 use Prim.Native.Nat.{ℕ, zero, suc, _+_, _*_, _-_, _/_, _%_, _^_, _≤_, _<_}
-use native.Mathlib.Nat.{pow-zero, pow-suc, div-one, eq-or-lt-of-le, le-of-suc-le-suc, not-suc-le-zero, mul-le-mul, pow-le-pow-right}
+use native.Mathlib.Nat.{pow-zero, pow-suc, div-one, div-le-self, eq-or-lt-of-le, le-of-suc-le-suc, not-suc-le-zero, mul-le-mul, pow-le-pow-right}
 use native.Mathlib.Decide.{decLt}
 use lib.Arith.{le-zero}
 use native.Mathlib.Numerals.{add-one}
@@ -85,17 +85,15 @@ above-parts s (suc l) = rw (← add-one) (go (above-parts s l))
 
 -- part j of block b stands behind the top blocks and the parts of all blocks before it
 pub place-part : (s : Shape) (l b j : ℕ) → place s (l + 1) (parts s * b + j) ≡ s .tops + parts s * place s l b + j
-unfolding place
 place-part s l b j = rw above-parts (omega arith)
 
 -- a block of the shape has a place in the tables
 pub place-inside : (s : Shape) (l b : ℕ) → l < s .levels → b < count s l → place s l b < blocks s
-unfolding place blocks
+unfolding blocks
 place-inside s l b h k = omega (arith, above-next s l, above-up s (l + 1) (s .levels) (omega arith))
 
 -- and no other block has that place
 pub place-once : (s : Shape) (l b m c : ℕ) → b < count s l → c < count s m → place s l b ≡ place s m c → (l ≡ m) × (b ≡ c)
-unfolding place
 place-once s l b m c h k e = go (decLt l m) (decLt m l)
   where
     apart : (l b m c : ℕ) → b < count s l → above s l + b ≡ above s m + c → l < m → ⊥
@@ -139,7 +137,27 @@ pub levelFor-fits : (s : Shape) (request : ℕ) → request ≤ s .«top_size» 
 unfolding levelFor
 levelFor-fits s request h = levelFrom-fits s request (s .levels - 1) h
 
+-- a level has at least one block, and the deepest of five levels 4,096 at the most
+pub count-range : (s : Shape) (l : ℕ) → Limits s → l < s .levels → (1 ≤ count s l) × (count s l ≤ 4096)
+unfolding count parts
+count-range s l h k = (
+  mul-le-mul (h .tops .0) (pow-le-pow-right {n = 4} (omega arith) {i = 0} {j = l} (omega arith)),
+  mul-le-mul (h .tops .1) (pow-le-pow-right {n = 4} (omega arith) {i = l} {j = 4} (omega arith)),
+)
+
 -- five levels of sixteen top blocks at the most
 pub blocks-most : (s : Shape) → Limits s → blocks s ≤ 5456
 unfolding blocks above count parts
 blocks-most s h = omega (arith, above-up s (s .levels) 5 (h .levels .1))
+
+pub above-most : (s : Shape) (l : ℕ) → Limits s → l ≤ s .levels → above s l ≤ 5456
+unfolding blocks
+above-most s l h k = omega (arith, blocks-most s h, above-up s l (s .levels) k)
+
+pub blocks-some : (s : Shape) → Limits s → 1 ≤ blocks s
+unfolding blocks
+blocks-some s h = omega (arith, above-up s (0 + 1) (s .levels) (h .levels .0), above-next s 0, count-top s, h .tops .0)
+
+pub size-most : (s : Shape) (l : ℕ) → Limits s → size s l ≤ 65536
+unfolding size
+size-most s l h = omega (arith, div-le-self (s .«top_size») (parts s ^ l), h .top)

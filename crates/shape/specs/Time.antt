@@ -4,10 +4,10 @@ use mathlib.Core.Bool.{cond}
 use Prim.Native.Nat.{ℕ, zero, suc, _+_, _/_}
 use lib.IntN.{ℤ, pos, negsuc}
 use lib.Dec.{leb}
-use Rattle.shape.specs.declared.Millis.{Millis}
-use Rattle.shape.specs.declared.Ticks.{Ticks}
-use Rattle.shape.specs.declared.Wait.{Wait}
-use Rattle.shape.specs.declared.Wait.the-variants.{Never, Forever, Timed, Outside}
+use Rattle.shape.specs.declared.time.Millis.{Millis}
+use Rattle.shape.specs.declared.time.Ticks.{Ticks}
+use Rattle.shape.specs.declared.time.Wait.{Wait}
+use Rattle.shape.specs.declared.time.Wait.the-variants.{Never, Forever, Timed, Outside}
 
 -- the longest wait that is a time
 unfoldable pub longest : ℕ
