@@ -6,8 +6,8 @@ use Prim.Native.Nat.{ℕ, zero, suc, _+_, _-_, _≤_, _<_}
 use native.Mathlib.Nat.{add-zero, suc-add, not-suc-le-zero}
 use native.Mathlib.Numerals.{add-one}
 use native.Mathlib.Omega.{arith}
-use lib.ListN.{length, getD, set, take, drop, replicate, length-drop, take-append-drop}
-use lib.Seq.{sets, sets-eq, length-take-le, take-at, drop-at, take-add, getD-take, getD-drop, set-set, set-comm}
+use lib.ListN.{length, getD, set, take, drop, replicate, length-take, length-drop, take-append-drop}
+use lib.Seq.{sets, sets-eq, length-take-le, take-at, drop-at, take-add, getD-take, getD-drop, ext-getD, set-set, set-comm}
 use Rattle.laws.specs.Lists.{pad, upFrom}
 
 -- the n places from i on
@@ -99,3 +99,15 @@ getD-pad n xs i = behind xs i
     behind [] i = zeros (n - length xs) i
     behind (y ∷ ys) zero = refl
     behind (y ∷ ys) (suc i) = behind ys i
+
+-- rows that agree at every place
+pub row-same :
+    (i n : ℕ) (xs ys : List ℕ) → length xs ≡ length ys → ((k : ℕ) → k < n → getD xs (i + k) 0 ≡ getD ys (i + k) 0) →
+    row i n xs ≡ row i n ys
+unfolding row
+row-same i n xs ys e h =
+    ext-getD 0 _ _ (simp (length-take, length-drop) (rw e))
+    (λ k l. getD-row i n xs k (short k l) ∙ h k (short k l) ∙ sym (getD-row i n ys k (short k l)))
+  where
+    short : (k : ℕ) → k < length (take n (drop i xs)) → k < n
+    short k l = omega (arith, length-take n (drop i xs))
