@@ -6,9 +6,10 @@ use Prim.Native.Nat.{ℕ, zero, suc, _+_, _-_, _≤_, _<_}
 use native.Mathlib.Nat.{add-zero, suc-add, not-suc-le-zero}
 use native.Mathlib.Numerals.{add-one}
 use native.Mathlib.Omega.{arith}
-use lib.ListN.{length, getD, set, take, drop, replicate, length-take, length-drop, take-append-drop}
-use lib.Seq.{sets, sets-eq, length-take-le, take-at, drop-at, take-add, getD-take, getD-drop, ext-getD, set-set, set-comm}
+use lib.ListN.{length, getD, set, take, drop, replicate, length-append, length-take, length-drop, take-append-drop}
+use lib.Seq.{sets, sets-eq, length-take-le, take-at, drop-at, take-add, take-suc, drop-cons, append-snoc, set-at, getD-take, getD-drop, getD-append-add, take-nil, ext-getD, set-set, set-comm}
 use Rattle.laws.specs.Lists.{pad, upFrom}
+use Rattle.laws.specs.Keep.{zeros-behind}
 
 -- the n places from i on
 unfoldable pub row : ℕ → ℕ → List ℕ → List ℕ
@@ -111,3 +112,62 @@ row-same i n xs ys e h =
   where
     short : (k : ℕ) → k < length (take n (drop i xs)) → k < n
     short k l = omega (arith, length-take n (drop i xs))
+
+-- a list whose first i places have taken what stood one place behind them
+unfoldable pub shifted : ℕ → List ℕ → List ℕ
+shifted i xs = take i (drop 1 xs) ++ drop i xs
+
+pub shifted-none : (xs : List ℕ) → shifted 0 xs ≡ xs
+unfolding shifted
+shifted-none xs = refl
+
+shifted-front : (i : ℕ) (xs : List ℕ) → i < length xs → length (take i (drop 1 xs)) ≡ i
+shifted-front i xs h = length-take-le i (drop 1 xs) (simp length-drop (omega arith))
+
+pub length-shifted : (i : ℕ) (xs : List ℕ) → i < length xs → length (shifted i xs) ≡ length xs
+unfolding shifted
+length-shifted i xs h = simp (length-append, length-drop) (omega (arith, shifted-front i xs h))
+
+-- a store at the next place
+shifted-set : (i x : ℕ) (xs : List ℕ) → i < length xs → set (shifted i xs) i x ≡ take i (drop 1 xs) ++ (x ∷ drop (suc i) xs)
+unfolding shifted
+shifted-set i x xs h = rw (drop-cons xs i 0 h) (set-at (take i (drop 1 xs)) _ _ x i (shifted-front i xs h))
+
+-- the next place takes what stands behind it
+pub shifted-more :
+    (i : ℕ) (xs : List ℕ) → i + 1 < length xs → set (shifted i xs) i (getD (shifted i xs) (i + 1) 0) ≡ shifted (i + 1) xs
+unfolding shifted
+shifted-more i xs h =
+    ap (λ (x : ℕ). set (shifted i xs) i x) next
+    ∙ shifted-set i (getD xs (i + 1) 0) xs (omega arith)
+    ∙ sym (rw (add-one, take-suc (drop 1 xs) i 0 behind, getD-drop, one) (append-snoc (take i (drop 1 xs)) _ _))
+  where
+    one : 1 + i ≡ suc i
+    one = omega arith
+
+    behind : i < length (drop 1 xs)
+    behind = simp length-drop (omega arith)
+
+    next : getD (take i (drop 1 xs) ++ drop i xs) (i + 1) 0 ≡ getD xs (i + 1) 0
+    next =
+        ap (λ (n : ℕ). getD (take i (drop 1 xs) ++ drop i xs) (n + 1) 0) (sym (shifted-front i xs (omega arith)))
+        ∙ getD-append-add (take i (drop 1 xs)) (drop i xs) 1 0
+        ∙ getD-drop i xs 1 0
+
+-- the last place is cleared: the first member is gone, and zeros stand behind the others
+pub shifted-end :
+    (i : ℕ) (xs : List ℕ) → i < length xs → ((k : ℕ) → i + 1 ≤ k → k < length xs → getD xs k 0 ≡ 0) →
+    set (shifted i xs) i 0 ≡ pad (length xs) (drop 1 (take (i + 1) xs))
+unfolding pad
+shifted-end i xs h z =
+    shifted-set i 0 xs h
+    ∙ sym
+    (rw (add-one, tail xs, shifted-front i xs h, less)
+    (ap (λ (r : List ℕ). take i (drop 1 xs) ++ (0 ∷ r)) (sym (rw add-one at (zeros-behind (i + 1) xs z)))))
+  where
+    tail : (ys : List ℕ) → drop 1 (take (suc i) ys) ≡ take i (drop 1 ys)
+    tail [] = sym (take-nil i)
+    tail (y ∷ ys) = refl
+
+    less : length xs - i ≡ suc (length xs - suc i)
+    less = omega arith
