@@ -103,3 +103,13 @@ tally-room (suc n) a m f h k = go (tally-room n a) (decLt n (a + m))
               below m f (omega arith) (λ j q. k j (lt-trans q (lt-suc-self m))),
               ap bit (subst (λ (x : ℕ). f x ≡ false) e (k m (lt-suc-self m))),
             )
+
+-- where the test passes somewhere, it passes at least once
+pub tally-some : (n k : ℕ) (f : ℕ → Bool) → k < n → f k ≡ true → 1 ≤ tally n f
+unfolding tally
+tally-some zero k f h e = absurd (not-suc-le-zero h)
+tally-some (suc n) k f h e = go (tally-some n k f) (eq-or-lt-of-le (le-of-suc-le-suc h))
+  where
+    go : (k < n → f k ≡ true → 1 ≤ tally n f) → (k ≡ n) ⊎ (k < n) → 1 ≤ tally n f + bit (f n)
+    go below (inl q) = omega (arith, ap bit (subst (λ (x : ℕ). f x ≡ true) q e))
+    go below (inr l) = omega (arith, below l e)

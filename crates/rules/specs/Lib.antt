@@ -3,6 +3,7 @@ pub mod Answers
 pub mod Tables
 pub mod Valid
 pub mod Facts
+pub mod Room
 pub mod Steps
 pub mod Calls
 pub mod Questions
