@@ -7,7 +7,7 @@ use native.Mathlib.Numerals.{add-one}
 use native.Mathlib.Omega.{arith}
 use Rattle.shape.specs.declared.Shape.{Shape}
 use Rattle.shape.specs.Limits.{parts}
-use Rattle.shape.specs.Blocks.{count, above, blocks}
+use Rattle.shape.specs.Blocks.{count, above, place, blocks}
 use Rattle.shape.specs.Laws.{parts-pos, count-next, above-next, above-up}
 
 -- a level's blocks end before those of any deeper level
@@ -43,4 +43,26 @@ buddy-inside s l b j h k m =
       arith,
       count-above s l h,
       mul-le-mul-left {m = b / parts s + 1} {n = count s (l - 1)} (parts s) (omega (arith, parent-inside s l b h k)),
+    )
+
+-- so they all have places in the tables
+pub parts-placed :
+    (s : Shape) (l b : ℕ) → l + 1 < s .levels → b < count s l → place s (l + 1) (parts s * b) + parts s ≤ blocks s
+parts-placed s l b h k =
+    omega (
+      arith,
+      level-inside s (l + 1) h,
+      count-next s l,
+      mul-le-mul-left {m = b + 1} {n = count s l} (parts s) (omega arith),
+    )
+
+pub buddies-placed :
+    (s : Shape) (l b : ℕ) → 0 < l → l < s .levels → b < count s l →
+    place s l (parts s * (b / parts s)) + parts s ≤ blocks s
+buddies-placed s l b h k m =
+    omega (
+      arith,
+      level-inside s l k,
+      count-above s l h,
+      mul-le-mul-left {m = b / parts s + 1} {n = count s (l - 1)} (parts s) (omega (arith, parent-inside s l b h m)),
     )
