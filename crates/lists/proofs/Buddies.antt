@@ -3,7 +3,7 @@
 use mathlib.Core.Path.{_≡_, ap}
 use mathlib.Core.Bool.{false, _||_}
 use mathlib.Core.List.{List}
-use Prim.Native.Nat.{ℕ, _+_, _≤_, _<_}
+use Prim.Native.Nat.{ℕ, _+_, _*_, _≤_, _<_}
 use native.Mathlib.Omega.{arith}
 use lib.ListN.{length, getD}
 use lib.Dec.{eqb}
@@ -11,15 +11,22 @@ use borrow.Author.Tests.{lt-ltb}
 use Rattle.laws.specs.Tests.{every, every-same}
 use Rattle.shape.specs.declared.Shape.{Shape}
 use Rattle.shape.specs.Limits.{parts}
-use Rattle.shape.specs.Blocks.{place}
-use Rattle.shape.specs.Laws.{limits, count-range}
-use Rattle.shape.specs.Sections.{buddies-placed}
+use Rattle.shape.specs.Blocks.{count, place}
+use Rattle.shape.specs.Laws.{limits, parts-pos, count-range}
+use Rattle.shape.specs.Sections.{part-inside, buddy-inside, buddies-placed}
 use Rattle.rules.specs.Numbers.{FREE}
 use Rattle.rules.specs.Steps.{firstBuddy, merges}
 use Rattle.lists.specs.Cells.{HasBlock}
 
 pub block-short : {s : Shape} {cells : List ℕ} {l b : ℕ} → HasBlock s cells l b → b < 4096
 block-short {s} {cells} {l} {b} h = omega (arith, count-range s l (limits s (h .shape)) (h .level), h .block)
+
+-- the first part and the first buddy are blocks of their levels
+pub first-part : {s : Shape} {cells : List ℕ} {l b : ℕ} → HasBlock s cells l b → parts s * b < count s (l + 1)
+first-part {s} {cells} {l} {b} h = omega (arith, part-inside s l b 0 (h .block) (parts-pos s))
+
+pub first-buddy : {s : Shape} {cells : List ℕ} {l b : ℕ} → HasBlock s cells l b → 0 < l → firstBuddy s b < count s l
+first-buddy {s} {cells} {l} {b} h k = omega (arith, buddy-inside s l b 0 k (h .block) (parts-pos s))
 
 -- the buddies have places in the table
 pub buddies-fit :

@@ -8,9 +8,8 @@ use lib.ListN.{getD}
 use lib.Dec.{eqb}
 use Rattle.laws.specs.Tests.{every, every-none, every-more}
 use Rattle.shape.specs.Limits.{parts}
-use Rattle.shape.specs.Sections.{buddy-inside}
 use Rattle.rules.specs.Numbers.{FREE}
-use Rattle.lists.proofs.Buddies.{block-short, buddies-fit, merges-top, merges-below}
+use Rattle.lists.proofs.Buddies.{block-short, first-buddy, buddies-fit, merges-top, merges-below}
 use Rattle.lists.proofs.states.merges.Statement.{statement}
 use Rattle.lists.proofs.states.merges.Tie as tie
 
@@ -31,7 +30,7 @@ unfolding parts
 place-requires c κs = (
   c .before .before .pre .shape,
   c .before .before .pre .level,
-  omega (arith, buddy-inside (c .before .before .args .s) (c .before .before .args .l) (c .before .before .args .b) 0 (omega arith) (c .before .before .pre .block) (omega arith)),
+  first-buddy (c .before .before .pre) (omega arith),
 )
 
 loop-holds : tie.Need-loop-holds Inv-loop μ-loop

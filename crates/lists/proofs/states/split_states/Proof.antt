@@ -6,8 +6,8 @@ use mathlib.Core.Path.{_∙_}
 use native.Mathlib.Numerals.{add-one}
 use lib.ListN.{length-set}
 use Rattle.shape.specs.Limits.{parts}
-use Rattle.shape.specs.Sections.{part-inside, parts-placed}
-use Rattle.lists.proofs.Buddies.{block-short}
+use Rattle.shape.specs.Sections.{parts-placed}
+use Rattle.lists.proofs.Buddies.{block-short, first-part}
 use Rattle.lists.proofs.states.split_states.Statement.{statement}
 use Rattle.lists.proofs.states.split_states.Tie as tie
 
@@ -25,11 +25,7 @@ mul-place c = omega (arith, block-short (c .before .before .pre .0))
 
 place-requires-2 : tie.Need-place-requires-2
 unfolding parts
-place-requires-2 c κs = (
-  c .before .before .pre .0 .shape,
-  c .before .before .pre .1,
-  omega (arith, part-inside (c .before .before .args .s) (c .before .before .args .l) (c .before .before .args .b) 0 (c .before .before .pre .0 .block) (omega arith)),
-)
+place-requires-2 c κs = (c .before .before .pre .0 .shape, c .before .before .pre .1, first-part (c .before .before .pre .0))
 
 slice-write-states-2 : tie.Need-slice-write-states-2
 slice-write-states-2 c = search needs
