@@ -1,5 +1,6 @@
 pub mod Tests
 pub mod Lists
-pub mod Keep
 pub mod Sums
 pub mod Times
+pub mod Keep
+pub mod Rows

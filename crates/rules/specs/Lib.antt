@@ -8,3 +8,4 @@ pub mod Steps
 pub mod Calls
 pub mod Questions
 pub mod Moves
+pub mod ListLaws

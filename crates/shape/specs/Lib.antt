@@ -2,4 +2,5 @@ pub mod Limits
 pub mod Blocks
 pub mod Time
 pub mod Laws
+pub mod Sections
 pub mod Levels
