@@ -1,3 +1,4 @@
 pub mod Call
 pub mod Queue
+pub mod Sift
 pub mod Wake

@@ -1,19 +1,19 @@
 -- The queue's table: what a queue that is put holds, and what the rule on its end says of its places.
 -- Assumes nothing.
-use mathlib.Core.Path.{_≡_, refl, sym, _∙_, ap}
-use mathlib.Core.Bool.{Bool, true, false, _||_, _&&_}
+use mathlib.Core.Path.{_≡_, _∙_, ap}
+use mathlib.Core.Bool.{Bool, true, _||_}
 use mathlib.Core.List.{List, [], _∷_, _++_, append-nil}
-use Prim.Native.Nat.{ℕ, zero, suc, _+_, _-_, _≤_, _<_}
+use Prim.Native.Nat.{ℕ, suc, _+_, _-_, _≤_, _<_}
 use native.Mathlib.Nat.{add-comm, sub-zero}
 use native.Mathlib.Numerals.{add-one, sub-one}
 use native.Mathlib.Omega.{arith}
-use lib.ListN.{length, getD, set, take, drop, length-drop, length-append}
-use lib.Seq.{drop-length, length-take-le, getD-take, getD-drop}
+use lib.ListN.{length, getD, set, take, drop, length-take, length-drop, length-append}
+use lib.Seq.{take-suc, take-take, take-all, drop-length, length-take-le, getD-take, getD-drop}
 use lib.Dec.{leb, ltb, eqb}
 use borrow.Author.Tests.{leb-true, le-ltb, eqb-true}
-use Rattle.laws.specs.Tests.{every, both, either, every-at}
-use Rattle.laws.specs.Lists.{pad, keep}
-use Rattle.laws.specs.Keep.{length-pad, take-pad, pad-append, sifted, sifted-all}
+use Rattle.laws.specs.Tests.{every, both, every-at}
+use Rattle.laws.specs.Lists.{pad}
+use Rattle.laws.specs.Keep.{length-pad, take-pad, pad-append}
 use Rattle.shape.specs.declared.Shape.{Shape}
 use Rattle.rules.specs.Tables.{queueOf, putQueue}
 use Rattle.rules.specs.Valid.{queueEnds}
@@ -24,6 +24,7 @@ pub record QueueReady (queue : List ℕ) : Type 0 where
   pub ends : getD queue 0 0 ≤ length queue - 1
   pub behind : (i : ℕ) → getD queue 0 0 < i → i < length queue → getD queue i 0 ≡ 0
 
+-- a queue that is put holds what was put
 pub queueOf-putQueue : (n : ℕ) (xs : List ℕ) → length xs ≤ n → queueOf (putQueue n xs) ≡ xs
 unfolding queueOf putQueue
 queueOf-putQueue n xs h = take-pad n xs
@@ -44,6 +45,25 @@ queueOf-at queue i h =
     getD-take (getD queue 0 0) (drop 1 queue) i 0 h
     ∙ getD-drop 1 queue i 0
     ∙ ap (λ (k : ℕ). getD queue k 0) (add-comm 1 i)
+
+-- the first of them are the first behind it
+pub take-queueOf : (queue : List ℕ) (i : ℕ) → i ≤ getD queue 0 0 → take i (queueOf queue) ≡ take i (drop 1 queue)
+unfolding queueOf
+take-queueOf queue i h = take-take i (getD queue 0 0) (drop 1 queue) h
+
+-- one member more
+pub queueOf-next :
+    (queue : List ℕ) (i : ℕ) → getD queue 0 0 + 1 ≤ length queue → i < getD queue 0 0 →
+    take (i + 1) (queueOf queue) ≡ take i (queueOf queue) ++ (getD queue (i + 1) 0 ∷ [])
+queueOf-next queue i fits h =
+    let k : i < length (queueOf queue) = omega (arith, length-queueOf queue fits) in
+    rw (← queueOf-at queue i h, add-one, take-suc (queueOf queue) i 0 k)
+
+-- so the first of them, up to that many, are all
+pub queueOf-all : (queue : List ℕ) (n : ℕ) → getD queue 0 0 ≤ n → take n (queueOf queue) ≡ queueOf queue
+unfolding queueOf
+queueOf-all queue n h =
+    take-all n (take (getD queue 0 0) (drop 1 queue)) (omega (arith, length-take (getD queue 0 0) (drop 1 queue)))
 
 -- the rule on the queue's end, in the words of the code
 pub queueReady : (s : Shape) (queue : List ℕ) → queueEnds s queue ≡ true → length queue ≡ s .threads + 1 → QueueReady queue
@@ -83,14 +103,6 @@ joined (n ∷ ys) t r h =
     let e : length (take n ys ++ (t ∷ [])) ≡ suc n = simp length-append (omega (arith, length-take-le n ys (omega arith))) in
     let m : suc (length ys) - 1 ≡ length ys = omega arith in
     rw (add-one, e, m) (ap (λ (r : List ℕ). suc n ∷ r) (pad-append n t ys (omega arith) (behind-members (n ∷ ys) r)))
-
--- those that fail left the queue, the rest keeping their order: stored in front, and zeros behind them
-pub sifted-queue :
-    (f : ℕ → Bool) (queue : List ℕ) → QueueReady queue →
-    length (keep f (queueOf queue)) ∷ sifted f (getD queue 0 0) (drop 1 queue) ≡ putQueue (length queue - 1) (keep f (queueOf queue))
-unfolding queueOf putQueue
-sifted-queue f queue r =
-    rw (sifted-all f (getD queue 0 0) (drop 1 queue) (rw length-drop (r .ends)) (behind-members queue r), length-drop)
 
 -- every place cleared: nobody waits
 pub emptied :

@@ -1,24 +1,23 @@
 -- Threads that wake: which cells that alters, what it leaves, and that the queue's members have calls.
 -- Assumes nothing.
-use mathlib.Core.Path.{_≡_, refl, sym, _∙_, ap}
-use mathlib.Core.Bool.{Bool, true, not, _&&_}
+use mathlib.Core.Path.{_≡_, refl, _∙_}
+use mathlib.Core.Bool.{Bool, true, not}
 use mathlib.Core.List.{List, [], _∷_, _++_}
-use Prim.Native.Nat.{ℕ, zero, suc, _+_, _*_, _-_, _≤_, _<_}
-use native.Mathlib.Numerals.{add-one}
+use Prim.Native.Nat.{ℕ, _+_, _*_, _-_, _≤_, _<_}
 use native.Mathlib.Omega.{arith}
 use lib.ListN.{length, getD, set, take, length-set}
-use lib.Seq.{take-suc, getD-set-other}
-use lib.Dec.{ltb, eqb}
+use lib.Seq.{getD-set-other}
+use lib.Dec.{ltb}
 use borrow.Author.Tests.{ltb-true}
-use Rattle.laws.specs.Tests.{bit, every, both, every-at}
-use Rattle.laws.specs.Lists.{keep, times}
+use Rattle.laws.specs.Tests.{every, both, every-at}
+use Rattle.laws.specs.Lists.{keep}
 use Rattle.shape.specs.declared.Shape.{Shape}
-use Rattle.rules.specs.Numbers.{ASKED, WAITING, CELLS}
+use Rattle.rules.specs.Numbers.{ASKED, CELLS}
 use Rattle.rules.specs.Tables.{queueOf, putQueue, callOf}
 use Rattle.rules.specs.Valid.{queueEnds, waitersQueued}
 use Rattle.rules.specs.Steps.{wake}
 use Rattle.rules.specs.Calls.{due}
-use Rattle.calls.specs.Queue.{QueueReady, queueReady, length-queueOf, queueOf-at}
+use Rattle.calls.specs.Queue.{QueueReady, queueReady, length-queueOf, queueOf-at, queueOf-next}
 
 -- the queue's length fits, and each of its members has a call in the table
 pub record MembersInside (calls queue : List ℕ) : Type 0 where
@@ -81,3 +80,21 @@ wake-cell calls (u ∷ ts) t k h l =
 pub due-wake : (calls ts : List ℕ) (clock t : ℕ) → due (wake calls ts) clock t ≡ due calls clock t
 unfolding due callOf
 due-wake calls ts clock t = rw (wake-cell calls ts t 2 (omega arith) (omega arith), wake-cell calls ts t 3 (omega arith) (omega arith))
+
+-- and so do those who stay in the queue
+pub keep-wake :
+    (calls ts : List ℕ) (clock : ℕ) (xs : List ℕ) →
+    keep (λ t. not (due (wake calls ts) clock t)) xs ≡ keep (λ t. not (due calls clock t)) xs
+keep-wake calls ts clock xs = simp due-wake
+
+-- the next of the queue's members wakes
+pub wake-next :
+    (calls queue : List ℕ) (i : ℕ) → getD queue 0 0 + 1 ≤ length queue → i < getD queue 0 0 →
+    set (wake calls (take i (queueOf queue))) (CELLS * getD queue (i + 1) 0) ASKED ≡ wake calls (take (i + 1) (queueOf queue))
+wake-next calls queue i fits h = rw (queueOf-next queue i fits h, wake-more)
+
+-- what a tick leaves: those due are awake and have left the queue, the rest keeping their order, and their number is answered
+pub record DueAwake (calls queue : List ℕ) (clock : ℕ) (callsAfter queueAfter : List ℕ) (woken : ℕ) : Type 0 where
+  pub awake : callsAfter ≡ wake calls (keep (due calls clock) (queueOf queue))
+  pub queued : queueAfter ≡ putQueue (length queue - 1) (keep (λ t. not (due calls clock t)) (queueOf queue))
+  pub number : woken ≡ length (keep (due calls clock) (queueOf queue))

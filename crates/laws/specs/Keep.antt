@@ -1,6 +1,6 @@
--- Laws of what is kept of a list, and of a list with zeros behind it.
+-- Laws of what is kept of a list, of a list with zeros behind it, of a list that is gone through in place, and of a run of stores.
 -- Assumes nothing.
-use mathlib.Core.Path.{_≡_, refl, sym, _∙_, ap, ap₂}
+use mathlib.Core.Path.{_≡_, refl, sym, _∙_, ap}
 use mathlib.Core.Bool.{Bool, true, false, cond}
 use mathlib.Core.Logic.{_≢_}
 use mathlib.Core.List.{List, [], _∷_, _++_, append-assoc, append-nil}
@@ -9,7 +9,7 @@ use native.Mathlib.Nat.{add-zero, not-suc-le-zero}
 use native.Mathlib.Numerals.{add-one}
 use native.Mathlib.Omega.{arith}
 use lib.ListN.{length, getD, set, take, drop, replicate, length-append, length-take, length-drop, length-set, take-append-drop, length-replicate, getD-replicate, replicate-append-replicate}
-use lib.Seq.{take-suc, drop-cons, append-snoc, set-at, take-at, set-append-left, length-take-le, getD-drop, ext-getD, sets, getD-set-same, getD-set-other}
+use lib.Seq.{take-suc, drop-cons, append-snoc, set-at, take-at, getD-at, set-append-left, length-take-le, getD-drop, ext-getD, sets, getD-set-same, getD-set-other}
 use Rattle.laws.specs.Lists.{pad, keep}
 
 pub keep-none : (f : ℕ → Bool) → keep f [] ≡ []
@@ -37,17 +37,25 @@ keep-most f (x ∷ xs) = pick (f x) (keep-most f xs)
     pick false h = omega arith
 
 -- one member more, which passes or not
+pub keep-one-pass :
+    (f : ℕ → Bool) (xs : List ℕ) (x : ℕ) → f x ≡ true → keep f (xs ++ (x ∷ [])) ≡ keep f xs ++ (x ∷ [])
+unfolding keep
+keep-one-pass f xs x e = rw keep-append (simp e)
+
+pub keep-one-fail : (f : ℕ → Bool) (xs : List ℕ) (x : ℕ) → f x ≡ false → keep f (xs ++ (x ∷ [])) ≡ keep f xs
+unfolding keep
+keep-one-fail f xs x e = rw keep-append (simp (e, append-nil))
+
+-- the same, where it is the next member of a list that is gone through
 pub keep-pass :
     (f : ℕ → Bool) (xs : List ℕ) (i : ℕ) → i < length xs → f (getD xs i 0) ≡ true →
     keep f (take (i + 1) xs) ≡ keep f (take i xs) ++ (getD xs i 0 ∷ [])
-unfolding keep
-keep-pass f xs i h e = rw (add-one, take-suc xs i 0, keep-append) (simp e)
+keep-pass f xs i h e = rw (add-one, take-suc xs i 0 h) (keep-one-pass f (take i xs) (getD xs i 0) e)
 
 pub keep-fail :
     (f : ℕ → Bool) (xs : List ℕ) (i : ℕ) → i < length xs → f (getD xs i 0) ≡ false →
     keep f (take (i + 1) xs) ≡ keep f (take i xs)
-unfolding keep
-keep-fail f xs i h e = rw (add-one, take-suc xs i 0, keep-append) (simp (e, append-nil))
+keep-fail f xs i h e = rw (add-one, take-suc xs i 0 h) (keep-one-fail f (take i xs) (getD xs i 0) e)
 
 pub length-pad : (n : ℕ) (xs : List ℕ) → length xs ≤ n → length (pad n xs) ≡ n
 unfolding pad
@@ -71,7 +79,7 @@ pad-set n x xs h =
     let e : n - length xs ≡ suc (n - (length xs + 1)) = omega arith in
     rw (e, length-append) (set-at xs 0 _ x (length xs) refl ∙ sym (append-snoc xs x _))
 
--- where zeros alone stand behind n places, the list is its first n with zeros behind them
+-- where every place from n on holds zero, as many zeros stand there
 pub zeros-behind :
     (n : ℕ) (xs : List ℕ) → ((i : ℕ) → n ≤ i → i < length xs → getD xs i 0 ≡ 0) → drop n xs ≡ replicate (length xs - n) 0
 zeros-behind n xs z =
@@ -101,6 +109,7 @@ pad-join n xs ys h k z =
     let e : n - length xs + (length ys - n) ≡ length ys - length xs = omega arith in
     rw (zeros-behind n ys z) (append-assoc xs _ _ ∙ rw (replicate-append-replicate, e))
 
+-- such a list is its first n with zeros behind them
 pub pad-take :
     (n : ℕ) (xs : List ℕ) → n ≤ length xs → ((i : ℕ) → n ≤ i → i < length xs → getD xs i 0 ≡ 0) →
     xs ≡ pad (length xs) (take n xs)
@@ -129,6 +138,18 @@ sifted-none f xs = refl
 pub keep-take-most : (f : ℕ → Bool) (i : ℕ) (xs : List ℕ) → length (keep f (take i xs)) ≤ i
 keep-take-most f i xs = omega (arith, keep-most f (take i xs), length-take i xs)
 
+-- the next member still stands at its place
+pub sifted-at : (f : ℕ → Bool) (i : ℕ) (xs : List ℕ) → i < length xs → getD (sifted f i xs) i 0 ≡ getD xs i 0
+unfolding sifted
+sifted-at f i xs h =
+    rw (drop-cons xs i 0 h)
+    (getD-at (pad i (keep f (take i xs))) _ _ 0 i (length-pad i (keep f (take i xs)) (keep-take-most f i xs)))
+
+pub length-sifted : (f : ℕ → Bool) (i : ℕ) (xs : List ℕ) → i ≤ length xs → length (sifted f i xs) ≡ length xs
+unfolding sifted
+length-sifted f i xs h =
+    simp (length-append, length-drop) (omega (arith, length-pad i (keep f (take i xs)) (keep-take-most f i xs)))
+
 -- the next member fails, and its place is cleared
 pub sifted-fail :
     (f : ℕ → Bool) (i : ℕ) (xs : List ℕ) → i < length xs → f (getD xs i 0) ≡ false →
@@ -141,14 +162,17 @@ pub sifted-pass :
     (f : ℕ → Bool) (i : ℕ) (xs : List ℕ) → i < length xs → f (getD xs i 0) ≡ true →
     set (set (sifted f i xs) i 0) (length (keep f (take i xs))) (getD xs i 0) ≡ sifted f (i + 1) xs
 unfolding sifted
-sifted-pass f i xs h e = rw (pad-clear i (keep f (take i xs)) xs (keep-take-most f i xs) h, keep-pass f xs i h e) (stored (keep-take-most f i xs))
+sifted-pass f i xs h e =
+    rw (pad-clear i (keep f (take i xs)) xs (keep-take-most f i xs) h, keep-pass f xs i h e)
+    (stored (keep-take-most f i xs))
   where
     stored :
         length (keep f (take i xs)) ≤ i →
         set (pad (i + 1) (keep f (take i xs)) ++ drop (i + 1) xs) (length (keep f (take i xs))) (getD xs i 0)
         ≡ pad (i + 1) (keep f (take i xs) ++ (getD xs i 0 ∷ [])) ++ drop (i + 1) xs
     stored k =
-        set-append-left (pad (i + 1) (keep f (take i xs))) _ _ _ (rw (length-pad (i + 1) (keep f (take i xs)) (omega arith)) (omega arith))
+        set-append-left (pad (i + 1) (keep f (take i xs))) _ _ _
+        (omega (arith, length-pad (i + 1) (keep f (take i xs)) (omega arith)))
         ∙ ap (λ (r : List ℕ). r ++ drop (i + 1) xs) (pad-set (i + 1) (getD xs i 0) (keep f (take i xs)) (omega arith))
 
 -- all up to n have been gone through, and zeros stand behind

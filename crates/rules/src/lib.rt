@@ -1,4 +1,7 @@
 // The words of document 01 as types: the record of clock and running thread, a thread's call, the answers.
+ghost use mathlib.Core.Path.{_≡_};
+ghost use Rattle.rules.specs.Steps.{closed, holding, moved};
+
 pub const ALLOCATED: u8 = 0;
 
 pub const FREE: u8 = 1;
@@ -48,6 +51,50 @@ pub struct Call {
     pub deadline: usize,
     pub level: usize,
     pub block: usize,
+}
+
+impl Call {
+    // A call that is not open.
+    pub fn closed() -> Call
+        ensures { λ r. ⌜ r ≡ closed ⌝ }
+    {
+        Call {
+            stage: CLOSED,
+            size: 0,
+            wait: 0,
+            deadline: 0,
+            level: 0,
+            block: 0,
+        }
+    }
+
+    // A call with a block in hand.
+    pub fn holding(stage: usize, size: usize, level: usize, block: usize) -> Call
+        ensures { λ r. ⌜ r ≡ holding stage size level block ⌝ }
+    {
+        Call {
+            stage,
+            size,
+            wait: 0,
+            deadline: 0,
+            level,
+            block,
+        }
+    }
+
+    // The same call at another stage, with another level found.
+    pub fn moved(self, stage: usize, level: usize) -> Call
+        ensures { λ r. ⌜ r ≡ moved self stage level ⌝ }
+    {
+        Call {
+            stage,
+            size: self.size,
+            wait: self.wait,
+            deadline: self.deadline,
+            level,
+            block: self.block,
+        }
+    }
 }
 
 // The deepest level with room.

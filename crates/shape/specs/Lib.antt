@@ -2,3 +2,4 @@ pub mod Limits
 pub mod Blocks
 pub mod Time
 pub mod Laws
+pub mod Levels

@@ -1,9 +1,12 @@
 -- Document 01, 'Calls and steps': a wait stands in milliseconds, a deadline in ticks.
 -- Assumes nothing.
-use mathlib.Core.Bool.{cond}
-use Prim.Native.Nat.{ℕ, zero, suc, _+_, _/_}
+use mathlib.Core.Path.{_≡_, refl}
+use mathlib.Core.Bool.{Bool, true, false, cond}
+use Prim.Native.Nat.{ℕ, zero, suc, _+_, _/_, _≤_}
 use lib.IntN.{ℤ, pos, negsuc}
+use native.Mathlib.Omega.{arith}
 use lib.Dec.{leb}
+use borrow.Author.Tests.{leb-true}
 use Rattle.shape.specs.declared.time.Millis.{Millis}
 use Rattle.shape.specs.declared.time.Ticks.{Ticks}
 use Rattle.shape.specs.declared.time.Wait.{Wait}
@@ -23,3 +26,24 @@ wait (negsuc zero) = Forever
 wait (negsuc (suc n)) = Outside
 wait (pos zero) = Never
 wait (pos (suc n)) = cond (leb (suc n) longest) (Timed (record { 0 = ticks (suc n) })) Outside
+
+-- how many ticks a timed wait lasts
+abbrev pub ticksOf : Wait → ℕ
+ticksOf Never = 0
+ticksOf Forever = 0
+ticksOf (Timed n) = n .0
+ticksOf Outside = 0
+
+-- at most as many as the longest has
+pub wait-most : (z : ℤ) → ticksOf (wait z) ≤ ticks longest
+unfolding wait ticks longest
+wait-most (negsuc zero) = omega arith
+wait-most (negsuc (suc n)) = omega arith
+wait-most (pos zero) = omega arith
+wait-most (pos (suc n)) = pick (leb (suc n) 600000) refl
+  where
+    pick :
+        (b : Bool) → leb (suc n) 600000 ≡ b →
+        ticksOf (cond b (Timed (record { 0 = (suc n + 9) / 10 })) Outside) ≤ (600000 + 9) / 10
+    pick true e = omega (arith, leb-true (suc n) 600000 e)
+    pick false e = omega arith

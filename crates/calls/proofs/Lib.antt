@@ -1,0 +1,2 @@
+pub mod Awake
+pub mod Staying

@@ -1,0 +1,3 @@
+pub mod Looks
+pub mod Asks
+pub mod Switches

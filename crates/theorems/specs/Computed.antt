@@ -1,0 +1,43 @@
+-- What a history on closed tables comes to, by the rules' own definitions.
+-- Assumes nothing.
+use mathlib.Core.Bool.{Bool, true}
+use mathlib.Core.List.{List}
+use Prim.Native.Nat.{ℕ, _*_}
+use lib.ListN.{length}
+use Rattle.laws.specs.Tests.{every, tally}
+use Rattle.laws.specs.Lists.{pad, times, keep, upFrom}
+use Rattle.shape.specs.declared.Shape.{Shape}
+use Rattle.shape.specs.Limits.{parts, unit, allowed}
+use Rattle.shape.specs.Blocks.{size, count, levelFrom, levelFor, above, blocks}
+use Rattle.shape.specs.Time.{longest, ticks, wait}
+use Rattle.rules.specs.Answers.{number, detail}
+use Rattle.rules.specs.Tables.{State, lengths, freeList, putList, queueOf, putQueue, callOf, putCall, fresh}
+use Rattle.rules.specs.Valid.{statesKnown, listEnds, queueEnds, fieldsUsed, topsExist, partsExist, deepestWhole, buddiesMerged, freeListed, ownersKnown, handInside, oneToOne, targetKept, waitersQueued, runningReady, sizeKept, foundKept, deadlineKept, mayWait, callKept, callsKept, valid}
+use Rattle.rules.specs.Steps.{deepest, noRoom, lookAt, look, takeFrom, takeStep, splitStep, grantStep, divideStep, merges, mergeStep, wake, settleStep, releaseStep, goOnStep}
+use Rattle.rules.specs.Calls.{build, askedCall, askStep, ask, goOn, idOutside, giveBlock, giveStep, give, switchStep, switch, due, tickStep, tick}
+use Rattle.rules.specs.Questions.{isWhole, whole}
+use Rattle.theorems.specs.History.{Step, stepOn, runSteps, answersOf, listing}
+
+-- where this unfolds every rule does, so that what stands beside it computes
+unfoldable pub everyRule : Bool
+unfolding every tally pad times keep upFrom parts unit allowed size count levelFrom levelFor above blocks longest ticks wait lengths freeList putList queueOf putQueue callOf putCall fresh statesKnown listEnds queueEnds fieldsUsed topsExist partsExist deepestWhole buddiesMerged freeListed ownersKnown handInside oneToOne targetKept waitersQueued runningReady sizeKept foundKept deadlineKept mayWait callKept callsKept valid deepest noRoom lookAt look takeFrom takeStep splitStep grantStep divideStep merges mergeStep wake settleStep releaseStep goOnStep build askedCall askStep ask goOn idOutside giveBlock giveStep give switchStep switch due tickStep tick isWhole whole stepOn runSteps answersOf listing
+everyRule = true
+
+-- fresh tables after a history
+abbrev pub after : Shape → List Step → State
+after s steps = runSteps s (fresh s) steps
+
+-- the number of a step's answer on these tables
+abbrev pub numberOn : Shape → State → Step → ℕ
+numberOn s T x = number (stepOn s T x .answer)
+
+-- the number and the detail of a step's answer after a history
+abbrev pub numberAfter : Shape → List Step → Step → ℕ
+numberAfter s steps x = numberOn s (after s steps) x
+
+abbrev pub detailAfter : Shape → List Step → Step → ℕ
+detailAfter s steps x = detail (stepOn s (after s steps) x .answer)
+
+-- the bytes of the FREE blocks that level l lists after a history
+abbrev pub freeAfter : Shape → List Step → ℕ → ℕ
+freeAfter s steps l = length (freeList s (after s steps .lists) l) * size s l
