@@ -13,7 +13,7 @@ ghost use Rattle.shape.specs.Blocks.{blocks};
 ghost use Rattle.rules.specs.Valid.{listEnds, freeListed};
 ghost use Rattle.lists_check.specs.Level.{zeros, below, free, OneLevel, AllLevels, levelValid};
 
-// How many blocks a pool of few blocks has at the most: fewer marks are then unset.
+// A pool of at most so many blocks is marked in a short array.
 const FEW_BLOCKS: usize = 341;
 
 // Whether every cell holds zero.
