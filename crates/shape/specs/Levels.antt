@@ -1,12 +1,12 @@
 -- Tests over all blocks, level by level or place by place.
 -- Assumes nothing.
-use mathlib.Core.Path.{_≡_, refl, sym, _∙_, ap}
-use mathlib.Core.Bool.{Bool, true, _&&_, and-assoc, and-true}
+use mathlib.Core.Path.{_≡_, _∙_, ap}
+use mathlib.Core.Bool.{Bool, _&&_, and-assoc, and-true}
 use Prim.Native.Nat.{ℕ, zero, suc, _+_, _*_, _-_, _≤_}
 use native.Mathlib.Nat.{add-zero, add-suc}
 use native.Mathlib.Numerals.{add-one}
 use native.Mathlib.Omega.{arith}
-use Rattle.laws.specs.Tests.{every, every-none, every-more}
+use Rattle.laws.specs.Tests.{every}
 use Rattle.shape.specs.declared.Shape.{Shape}
 use Rattle.shape.specs.Limits.{parts}
 use Rattle.shape.specs.Blocks.{count, above, place, blocks}

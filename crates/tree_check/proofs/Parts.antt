@@ -11,7 +11,7 @@ use lib.Dec.{eqb}
 use Rattle.laws.specs.Tests.{every, every-both}
 use Rattle.shape.specs.declared.Shape.{Shape}
 use Rattle.shape.specs.Limits.{parts}
-use Rattle.shape.specs.Blocks.{above, place}
+use Rattle.shape.specs.Blocks.{above}
 use Rattle.shape.specs.Laws.{place-part}
 use Rattle.shape.specs.Levels.{every-place}
 use Rattle.rules.specs.Numbers.{FREE, DIVIDED, NOEXIST}

@@ -1,6 +1,6 @@
 -- What the passes say of the lines of validity: each its own, and all together.
 -- Assumes nothing.
-use mathlib.Core.Path.{_≡_, sym, _∙_}
+use mathlib.Core.Path.{_≡_}
 use mathlib.Core.Bool.{Bool, true, false, not, _&&_, and-true, and-false}
 use mathlib.Core.List.{List}
 use Prim.Native.Nat.{ℕ, _+_, _-_, _≤_}
@@ -11,7 +11,7 @@ use lib.Dec.{eqb}
 use Rattle.laws.specs.Tests.{every}
 use Rattle.shape.specs.declared.Shape.{Shape}
 use Rattle.shape.specs.Limits.{allowed}
-use Rattle.shape.specs.Blocks.{count, above, blocks}
+use Rattle.shape.specs.Blocks.{above, blocks}
 use Rattle.shape.specs.Laws.{limits, above-none, above-up}
 use Rattle.shape.specs.Levels.{blocks-parts, blocks-deepest}
 use Rattle.rules.specs.Numbers.{DIVIDED, NOEXIST}

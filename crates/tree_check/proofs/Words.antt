@@ -1,9 +1,9 @@
 -- Four parts tested as one word. Where a state has its two lowest bits set, `w & (w >> 1)` has the lowest bit of its cell set, whatever stands
 -- in the next cell; of the states NOEXIST alone is so.
 -- Assumes nothing.
-use mathlib.Core.Path.{_≡_, refl, sym, _∙_, ap₂}
-use mathlib.Core.Bool.{Bool, true, false, not, _&&_, Bool·beq, and-assoc, and-comm}
-use Prim.Native.Nat.{ℕ, zero, suc, _+_, _*_, _/_, _%_, _^_, _≤_, _<_}
+use mathlib.Core.Path.{_≡_, refl, _∙_, ap₂}
+use mathlib.Core.Bool.{Bool, true, false, not, _&&_, Bool·beq, and-assoc}
+use Prim.Native.Nat.{ℕ, zero, suc, _+_, _*_, _/_, _%_, _≤_, _<_}
 use native.Mathlib.Omega.{arith}
 use lib.Bits.{bitAnd, and-block, and-lt, and-mask, and-mod}
 use lib.Dec.{eqb}

@@ -2,7 +2,7 @@
 use shape::Shape;
 ghost use mathlib.Core.Path.{_≡_};
 ghost use mathlib.Core.Bool.{true, not, _&&_};
-ghost use Prim.Native.Nat.{_+_, _-_, _≤_};
+ghost use Prim.Native.Nat.{_+_, _-_, max, _≤_};
 ghost use lib.ListN.{length, getD};
 ghost use lib.Dec.{eqb};
 ghost use Rattle.laws.specs.Tests.{every};
@@ -30,6 +30,13 @@ fn none_is(cells: &[u8], from: usize, to: usize, value: u8) -> bool
     ok
 }
 
+// The larger of two cells.
+fn larger(a: u8, b: u8) -> u8
+    ensures { λ r. ⌜ r ≡ max a b ⌝ }
+{
+    if a < b { b } else { a }
+}
+
 // Whether every state is known, and an ALLOCATED block, and no other, has a thread as owner.
 fn owners_known(s: Shape, states: &[u8], owners: &[u8]) -> bool
     requires { ⌜ (allowed s ≡ true) × (length (now states) ≡ blocks s) × (length (now owners) ≡ blocks s) ⌝ }
@@ -38,19 +45,19 @@ fn owners_known(s: Shape, states: &[u8], owners: &[u8]) -> bool
         ≡ (statesKnown s (now (states .entry))
         && ownersKnown s (now (states .entry)) (now (owners .entry))) ⌝ }
 {
-    let threads = s.threads as u8;
-    let mut ok = true;
+    let mut paired = true;
+    let mut highest_state: u8 = 0;
+    let mut highest_owner: u8 = 0;
     let mut k = 0;
     while k < states.len() {
         let state = states[k];
         let owner = owners[k];
-        ok = ok
-            & (state <= rules::ALLOCATING)
-            & ((state == rules::ALLOCATED) == (owner != 0))
-            & (owner <= threads);
+        paired = paired & ((state == rules::ALLOCATED) == (owner != 0));
+        highest_state = larger(highest_state, state);
+        highest_owner = larger(highest_owner, owner);
         k += 1;
     }
-    ok
+    (highest_state <= rules::ALLOCATING) & (paired & (highest_owner <= s.threads as u8))
 }
 
 // Four cells from a place on as one number, the first lowest: a read of one word.

@@ -1,7 +1,8 @@
--- `tree_check::owners_known` meets its contract: the flag says what holds of the blocks passed.
+-- `tree_check::owners_known` meets its contract: of the blocks passed, the highest state and owner bound the rest, and the flag says that
+-- state and owner go together.
 -- Assumes nothing.
-use mathlib.Core.Path.{_≡_, sym, _∙_}
-use mathlib.Core.Bool.{Bool, true, not, _&&_, Bool·beq, and-assoc}
+use mathlib.Core.Path.{_≡_, sym, ap}
+use mathlib.Core.Bool.{Bool, true, not, _&&_, Bool·beq}
 use mathlib.Core.List.{List}
 use Prim.Native.Nat.{ℕ, _+_, _-_, _≤_}
 use native.Mathlib.Omega.{arith}
@@ -13,53 +14,53 @@ use Rattle.shape.specs.Blocks.{blocks}
 use Rattle.shape.specs.Laws.{limits}
 use Rattle.rules.specs.Numbers.{ALLOCATED, ALLOCATING}
 use Rattle.rules.specs.Valid.{statesKnown, ownersKnown}
+use Rattle.tree_check.proofs.Highest.{Highest, highest-none, highest-more}
 use Rattle.tree_check.proofs.owners_known.Statement.{statement}
 use Rattle.tree_check.proofs.owners_known.Tie as tie
 
--- the states and owners of the first n blocks
-unfoldable known : List ℕ → List ℕ → ℕ → ℕ → Bool
-known states owners threads n =
-    every n (λ k.
-    leb (getD states k 0) ALLOCATING
-    && (Bool·beq (eqb (getD states k 0) ALLOCATED) (not (eqb (getD owners k 0) 0)) && leb (getD owners k 0) threads))
+-- the states and owners of the first n blocks go together
+unfoldable pairs : List ℕ → List ℕ → ℕ → Bool
+pairs states owners n = every n (λ k. Bool·beq (eqb (getD states k 0) ALLOCATED) (not (eqb (getD owners k 0) 0)))
 
-start : (states owners : List ℕ) (threads : ℕ) → true ≡ known states owners threads 0
-unfolding known
-start states owners threads = sym (every-none _)
+pairs-none : (states owners : List ℕ) → true ≡ pairs states owners 0
+unfolding pairs
+pairs-none states owners = sym (every-none _)
 
-more :
-    (states owners : List ℕ) (threads k : ℕ) (ok : Bool) → ok ≡ known states owners threads k →
-    (ok
-    && leb (getD states k 0) ALLOCATING
-    && Bool·beq (eqb (getD states k 0) ALLOCATED) (not (eqb (getD owners k 0) 0))
-    && leb (getD owners k 0) threads)
-    ≡ known states owners threads (k + 1)
-unfolding known
-more states owners threads k ok e = rw (every-more, ← e) (simp and-assoc)
+pairs-more :
+    (states owners : List ℕ) (k : ℕ) (paired : Bool) → paired ≡ pairs states owners k →
+    (paired && Bool·beq (eqb (getD states k 0) ALLOCATED) (not (eqb (getD owners k 0) 0))) ≡ pairs states owners (k + 1)
+unfolding pairs
+pairs-more states owners k paired e = rw (e, every-more)
 
 whole :
-    (s : Shape) (states owners : List ℕ) (k : ℕ) → k ≡ blocks s →
-    known states owners (s .threads) k ≡ (statesKnown s states && ownersKnown s states owners)
-unfolding known statesKnown ownersKnown
-whole s states owners k e = rw e (every-both (blocks s) _ _)
+    (s : Shape) (states owners : List ℕ) (k state owner : ℕ) (paired : Bool) → k ≡ blocks s → Highest states k state →
+    Highest owners k owner → paired ≡ pairs states owners k →
+    (leb state ALLOCATING && (paired && leb owner (s .threads))) ≡ (statesKnown s states && ownersKnown s states owners)
+unfolding pairs statesKnown ownersKnown
+whole s states owners k state owner paired e hs ho hp =
+    rw (hs .bounds ALLOCATING, ho .bounds (s .threads), hp, e)
+    (ap (λ (t : Bool). every (blocks s) (λ j. leb (getD states j 0) ALLOCATING) && t) (sym (every-both (blocks s) _ _)))
 
 abbrev Inv-loop : tie.InvT-loop
-Inv-loop states owners threads ok₀ k₀ ok k = (k ≤ length states) × (ok ≡ known states owners threads k)
+Inv-loop s states owners paired₀ highest-state₀ highest-owner₀ k₀ paired highest-state highest-owner k = (k ≤ length states) × Highest states k highest-state × Highest owners k highest-owner × (paired ≡ pairs states owners k)
 
 abbrev μ-loop : tie.MeasureT-loop
-μ-loop states owners threads ok₀ k₀ ok k = length states - k
-
-cast-threads : tie.Need-cast-threads Inv-loop μ-loop
-cast-threads c = omega (arith, limits (c .before .args .s) (c .before .pre .0))
+μ-loop s states owners paired₀ highest-state₀ highest-owner₀ k₀ paired highest-state highest-owner k = length states - k
 
 loop-holds : tie.Need-loop-holds Inv-loop μ-loop
-loop-holds c = (omega arith, start _ _ _)
+loop-holds c = (omega arith, highest-none _, highest-none _, pairs-none _ _)
 
 shared-slice-read-state : tie.Need-shared-slice-read-state Inv-loop μ-loop
 shared-slice-read-state c = omega arith
 
 shared-slice-read-owner : tie.Need-shared-slice-read-owner Inv-loop μ-loop
 shared-slice-read-owner c = omega arith
+
+larger-requires : tie.Need-larger-requires Inv-loop μ-loop
+larger-requires c κs = tt
+
+larger-requires-2 : tie.Need-larger-requires-2 Inv-loop μ-loop
+larger-requires-2 c κs = tt
 
 add-k : tie.Need-add-k Inv-loop μ-loop
 add-k c = omega arith
@@ -68,10 +69,30 @@ loop-less : tie.Need-loop-less Inv-loop μ-loop
 loop-less c = omega arith
 
 loop-again : tie.Need-loop-again Inv-loop μ-loop
-loop-again c = (omega arith, more _ _ _ _ _ (c .before .before .before .loop .inv .1))
+loop-again c = (
+  omega arith,
+  highest-more _ _ _ _ (c .before .before .before .before .before .loop .inv .1) (c .before .larger .ensures),
+  highest-more _ _ _ _ (c .before .before .before .before .before .loop .inv .2) (c .larger2 .ensures),
+  pairs-more _ _ _ _ (c .before .before .before .before .before .loop .inv .3),
+)
+
+cast-result : tie.Need-cast-result Inv-loop μ-loop
+cast-result c = omega (arith, limits (c .before .before .before .before .before .args .s) (c .before .before .before .before .before .pre .0))
 
 returns : tie.Need-returns Inv-loop μ-loop
-returns c = c .before .loop .inv .1 ∙ whole _ _ _ _ (omega arith)
+returns c =
+    whole
+    (c .before .before .before .before .before .args .s)
+    _
+    _
+    (c .before .before .loop .k)
+    _
+    _
+    _
+    (omega arith)
+    (c .before .before .loop .inv .1)
+    (c .before .before .loop .inv .2)
+    (c .before .before .loop .inv .3)
 
 pub owners-known-spec : {M : Type 1} → statement M
 owners-known-spec =
@@ -79,11 +100,13 @@ owners-known-spec =
     (tie.spec
     Inv-loop
     μ-loop
-    cast-threads
     loop-holds
     shared-slice-read-state
     shared-slice-read-owner
+    larger-requires
+    larger-requires-2
     add-k
     loop-less
     loop-again
+    cast-result
     returns)
