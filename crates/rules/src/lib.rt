@@ -37,6 +37,9 @@ pub const TIMED: usize = 2;
 // How many cells a call takes in its table.
 pub const CELLS: usize = 6;
 
+// The clock runs from 0 to here.
+pub const CLOCK_END: u32 = 4294967295;
+
 // The clock, and who runs: 0 for nobody, t + 1 for thread t.
 pub struct Device {
     pub clock: u32,

@@ -1,3 +1,5 @@
 pub mod Looks
 pub mod Asks
 pub mod Switches
+pub mod Moves
+pub mod Gives

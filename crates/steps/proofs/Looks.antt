@@ -9,13 +9,16 @@ use lib.ListN.{length}
 use lib.Dec.{eqb, ltb}
 use borrow.Author.Tests.{eq-eqb, ne-eqb}
 use Rattle.shape.specs.declared.Shape.{Shape}
+use Rattle.shape.specs.Blocks.{levelFor}
 use Rattle.rules.specs.declared.Device.{Device}
 use Rattle.rules.specs.declared.Call.{Call}
 use Rattle.rules.specs.declared.Refusal.the-variants.{NoRoom, TimedOut}
-use Rattle.rules.specs.declared.Answer.the-variants.{Refused, Waiting}
-use Rattle.rules.specs.Numbers.{NEVER, TIMED, WAITING}
+use Rattle.rules.specs.declared.Answer.the-variants.{Refused, Found, Waiting}
+use Rattle.rules.specs.declared.Room.{Room}
+use Rattle.rules.specs.declared.Room.the-variants.{At, Nowhere}
+use Rattle.rules.specs.Numbers.{FOUND, NEVER, TIMED, WAITING}
 use Rattle.rules.specs.Tables.{state, queueOf, putQueue, putCall}
-use Rattle.rules.specs.Steps.{outcome, closed, moved, noRoom}
+use Rattle.rules.specs.Steps.{Outcome, outcome, closed, moved, deepest, noRoom, lookAt, look}
 
 module _ (s : Shape) (states owners lists calls queue : List ℕ) (d : Device) (t : ℕ) (c : Call) where
   pub no-wait :
@@ -45,3 +48,26 @@ module _ (s : Shape) (states owners lists calls queue : List ℕ) (d : Device) (
     where
       less : length queue - 1 ≡ s .threads
       less = omega arith
+
+  pub past-deadline :
+      {put : List ℕ} {k : Call} → (eqb (c .wait) TIMED && ltb (c .deadline) (d .clock)) ≡ true →
+      put ≡ putCall calls t k → k ≡ closed →
+      outcome (Refused TimedOut) (state states owners lists put queue d)
+      ≡ look s (state states owners lists calls queue d) t c
+  unfolding look
+  past-deadline h p e = rw (p, e, h)
+
+  pub finds :
+      {put : List ℕ} {k : Call} {target l : ℕ} {room : Room} → (eqb (c .wait) TIMED && ltb (c .deadline) (d .clock)) ≡ false →
+      target ≡ levelFor s (c .size) → room ≡ deepest lists target → room ≡ At l → put ≡ putCall calls t k →
+      k ≡ moved c FOUND l →
+      outcome (Found l) (state states owners lists put queue d) ≡ look s (state states owners lists calls queue d) t c
+  unfolding look lookAt
+  finds h g r a p e = rw (p, e, h, ← g, ← r, a)
+
+  pub finds-none :
+      {target : ℕ} {room : Room} {o : Outcome} → (eqb (c .wait) TIMED && ltb (c .deadline) (d .clock)) ≡ false →
+      target ≡ levelFor s (c .size) → room ≡ deepest lists target → room ≡ Nowhere →
+      o ≡ noRoom s (state states owners lists calls queue d) t c → o ≡ look s (state states owners lists calls queue d) t c
+  unfolding look lookAt
+  finds-none h g r a p = rw (p, h, ← g, ← r, a)

@@ -1,21 +1,84 @@
--- What a step needs of the tables that it touches.
+-- What a step needs of the tables that it touches; valid tables give it.
 -- Assumes nothing.
 use mathlib.Core.Path.{_≡_}
+use mathlib.Core.Bool.{true}
 use mathlib.Core.List.{List}
-use Prim.Native.Nat.{ℕ, _+_, _*_, _≤_, _<_}
+use Prim.Native.Nat.{ℕ, _+_, _*_, _-_, _≤_, _<_}
 use lib.ListN.{length, getD}
+use Rattle.shape.specs.declared.Shape.{Shape}
+use Rattle.shape.specs.Limits.{parts, allowed}
+use Rattle.shape.specs.Blocks.{count, blocks}
 use Rattle.rules.specs.declared.Call.{Call}
 use Rattle.rules.specs.Numbers.{ASKED, CELLS}
+use Rattle.rules.specs.Tables.{freeList}
+use Rattle.rules.specs.ListLaws.{ListReady}
 use Rattle.calls.specs.Queue.{QueueReady}
+use Rattle.calls.specs.Wake.{MembersInside}
+use Rattle.lists.specs.Cells.{HasBlock}
+
+-- a call that is asked
+abbrev pub asking : ℕ → ℕ → ℕ → Call
+asking size wait deadline = record { stage = ASKED; size = size; wait = wait; deadline = deadline; level = 0; block = 0 }
+
+-- thread t has a call in the table
+abbrev pub HasCall : List ℕ → ℕ → Type 0
+HasCall calls t = CELLS * t + CELLS ≤ length calls
 
 -- thread t's call can be put, and t can join the queue
 pub record Joins (calls queue : List ℕ) (t : ℕ) : Type 0 where
-  pub mine : CELLS * t + CELLS ≤ length calls
+  pub mine : HasCall calls t
   pub ready : QueueReady queue
   pub room : getD queue 0 0 + 1 < length queue
   pub few : length queue ≤ 9
   pub small : t < 256
 
--- a call that is asked
-abbrev pub asking : ℕ → ℕ → ℕ → Call
-asking size wait deadline = record { stage = ASKED; size = size; wait = wait; deadline = deadline; level = 0; block = 0 }
+pub record Looks (s : Shape) (lists calls queue : List ℕ) (t : ℕ) : Type 0 where
+  pub shape : allowed s ≡ true
+  pub joins : Joins calls queue t
+  pub levels : length lists ≡ s .levels + blocks s
+  pub threads : length queue ≡ s .threads + 1
+
+pub record Takes (s : Shape) (states lists calls : List ℕ) (t : ℕ) (c : Call) : Type 0 where
+  pub mine : HasCall calls t
+  pub list : ListReady s lists (c .level)
+  pub whole : length states ≡ blocks s
+  pub inside : 0 < getD lists (c .level) 0 → getD (freeList s lists (c .level)) 0 0 < count s (c .level)
+
+pub record Splits (s : Shape) (states lists calls : List ℕ) (t : ℕ) (c : Call) : Type 0 where
+  pub mine : HasCall calls t
+  pub hand : HasBlock s states (c .level) (c .block)
+  pub list : ListReady s lists (c .level + 1)
+  pub room : getD lists (c .level + 1) 0 + (parts s - 1) ≤ count s (c .level + 1)
+
+pub record Grants (s : Shape) (states owners calls : List ℕ) (t : ℕ) (c : Call) : Type 0 where
+  pub mine : HasCall calls t
+  pub hand : HasBlock s states (c .level) (c .block)
+  pub owned : length owners ≡ blocks s
+  pub small : t < 8
+
+pub record Merges (s : Shape) (states lists calls : List ℕ) (t : ℕ) (c : Call) : Type 0 where
+  pub mine : HasCall calls t
+  pub hand : HasBlock s states (c .level) (c .block)
+  pub list : ListReady s lists (c .level)
+  pub below : 0 < c .level
+
+pub record Settles (s : Shape) (states lists calls queue : List ℕ) (t : ℕ) (c : Call) : Type 0 where
+  pub mine : HasCall calls t
+  pub hand : HasBlock s states (c .level) (c .block)
+  pub list : ListReady s lists (c .level)
+  pub room : getD lists (c .level) 0 < count s (c .level)
+  pub members : MembersInside calls queue
+  pub threads : length queue ≡ s .threads + 1
+
+pub record GivesBlock (s : Shape) (states owners calls : List ℕ) (t l b : ℕ) : Type 0 where
+  pub mine : HasCall calls t
+  pub block : HasBlock s states l b
+  pub owned : length owners ≡ blocks s
+  pub small : t < 8
+
+pub record Gives (s : Shape) (states owners calls : List ℕ) (t : ℕ) : Type 0 where
+  pub shape : allowed s ≡ true
+  pub mine : HasCall calls t
+  pub whole : length states ≡ blocks s
+  pub owned : length owners ≡ blocks s
+  pub small : t < 8
