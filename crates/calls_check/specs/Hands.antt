@@ -62,8 +62,8 @@ handMarks-more :
 unfolding handMarks handMark
 handMarks-more calls t l b = simp tally-more (omega arith)
 
--- at most eight of each
-pub handMarks-most : (calls : List ℕ) (t l b : ℕ) → handMarks calls t l b ≤ 17 * t
+-- a call adds one mark of each kind at the most
+handMarks-most : (calls : List ℕ) (t l b : ℕ) → handMarks calls t l b ≤ 17 * t
 unfolding handMarks
 handMarks-most calls t l b =
     omega (
@@ -97,7 +97,8 @@ handMark-same c =
 handMark-other : (c : Call) (l b : ℕ) → (eqb (c .level) l && eqb (c .block) b) ≡ false → handMark c l b ≡ 0
 unfolding handMark
 handMark-other c l b e =
-    ap₂ mark (go (eqb (c .stage) DIVIDING) (eqb (c .level) l) (eqb (c .block) b) e) (go (eqb (c .stage) RELEASING) (eqb (c .level) l) (eqb (c .block) b) e)
+    ap₂ mark (go (eqb (c .stage) DIVIDING) (eqb (c .level) l) (eqb (c .block) b) e)
+    (go (eqb (c .stage) RELEASING) (eqb (c .level) l) (eqb (c .block) b) e)
   where
     go : (a x y : Bool) → (x && y) ≡ false → (a && x && y) ≡ false
     go true x y h = h
@@ -147,7 +148,8 @@ marked-more s calls marks t c m e (hl, hb) n =
 
     same : (l b : ℕ) → c .level ≡ l → c .block ≡ b → getD (set marks p v) (place s l b) 0 ≡ handMarks calls (t + 1) l b
     same l b q r =
-        rw (next, ← q, ← r, getD-set-same marks p v 0 (omega (arith, place-inside s (c .level) (c .block) hl hb)), handMark-same, m .at (c .level) (c .block) hl hb)
+        let inside : p < length marks = omega (arith, place-inside s (c .level) (c .block) hl hb) in
+        rw (next, ← q, ← r, getD-set-same marks p v 0 inside, handMark-same, m .at (c .level) (c .block) hl hb)
 
     other :
         (l b : ℕ) → l < s .levels → b < count s l → (eqb (c .level) l && eqb (c .block) b) ≡ false →
@@ -195,6 +197,7 @@ marks-agree s states calls marks n h m =
     ∙ every-same (s .levels) _ _ (λ l i.
     every-same (count s l) _ _ (λ b j.
     rw (m .at l b i j)
-    (digits _ _ (eqb (stateAt s states l b) ALLOCATING) (eqb (stateAt s states l b) FREEING) (omega (arith, tally-most (s .threads) (λ t. inHand DIVIDING l b (callOf calls t))))))
+    (digits _ _ (eqb (stateAt s states l b) ALLOCATING) (eqb (stateAt s states l b) FREEING)
+    (omega (arith, tally-most (s .threads) (λ t. inHand DIVIDING l b (callOf calls t))))))
     ∙ every-both (count s l) _ _)
     ∙ every-both (s .levels) _ _)
