@@ -3,3 +3,4 @@ pub mod Blocks
 pub mod Time
 pub mod Laws
 pub mod Levels
+pub mod Offsets
