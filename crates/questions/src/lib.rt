@@ -1,0 +1,3 @@
+// The three questions on tables that are known to be valid: whole, cover and map.
+pub mod cover;
+pub mod whole;
