@@ -4,3 +4,4 @@ pub mod Time
 pub mod Laws
 pub mod Sections
 pub mod Levels
+pub mod Offsets
