@@ -1,1 +1,3 @@
+pub mod Listings
 pub mod Passes
+pub mod Rows
