@@ -1,0 +1,199 @@
+// The pool's public calls: each takes any numbers and any tables, and makes its step or gives the listed refusal.
+use rules::Answer;
+use rules::Covered;
+use rules::Device;
+use rules::Mapped;
+use rules::Ran;
+use rules::Refusal;
+use shape::Shape;
+use shape::time::Millis;
+use verdict::Verdict;
+ghost use mathlib.Core.Path.{_≡_};
+ghost use Rattle.rules.specs.Tables.{state};
+ghost use Rattle.rules.specs.Steps.{outcome};
+ghost use Rattle.rules.specs.Calls.{ask, goOn, give, switch, tick};
+ghost use Rattle.rules.specs.Questions.{whole, cover, mapOutcome, mapPool};
+
+// Ask: thread t asks for a block of at least this size, and says how long it would wait.
+pub fn ask(
+    d: Device,
+    s: Shape,
+    states: &[u8],
+    owners: &[u8],
+    lists: &[u16],
+    calls: &mut [u64],
+    queue: &[u8],
+    t: usize,
+    size: usize,
+    wait: Millis,
+) -> Answer
+    ensures { λ r. ⌜ outcome r (state (now (states .entry)) (now (owners .entry)) (now (lists .entry)) (now (calls .exit)) (now (queue .entry)) d) ≡ ask s (state (now (states .entry)) (now (owners .entry)) (now (lists .entry)) (now (calls .entry)) (now (queue .entry)) d) t size wait ⌝ }
+{
+    let v = verdict::checked_running(s, states, owners, lists, calls, queue, d, t);
+    match v {
+        Verdict::Failed(r) => Answer::Refused(r),
+        Verdict::Passed => steps::ask::ask_step(d, s, calls, t, size, wait),
+    }
+}
+
+// Go on: thread t's call makes its next step.
+pub fn go_on(
+    d: Device,
+    s: Shape,
+    states: &mut [u8],
+    owners: &mut [u8],
+    lists: &mut [u16],
+    calls: &mut [u64],
+    queue: &mut [u8],
+    t: usize,
+) -> Ran
+    ensures { λ r. ⌜ outcome (r .answer) (state (now (states .exit)) (now (owners .exit)) (now (lists .exit)) (now (calls .exit)) (now (queue .exit)) (r .device)) ≡ goOn s (state (now (states .entry)) (now (owners .entry)) (now (lists .entry)) (now (calls .entry)) (now (queue .entry)) d) t ⌝ }
+{
+    let v = verdict::checked_running(s, states, owners, lists, calls, queue, d, t);
+    match v {
+        Verdict::Failed(r) => Ran {
+            answer: Answer::Refused(r),
+            device: d,
+        },
+        Verdict::Passed => {
+            let c = calls::call::call_of(calls, t);
+            if c.stage == rules::CLOSED {
+                return Ran {
+                    answer: Answer::Refused(Refusal::NoCall),
+                    device: d,
+                };
+            }
+            steps::go_on::go_on_step(d, s, states, owners, lists, calls, queue, t)
+        }
+    }
+}
+
+// Give back: thread t gives back the block with this id.
+pub fn give_back(
+    d: Device,
+    s: Shape,
+    states: &mut [u8],
+    owners: &mut [u8],
+    lists: &[u16],
+    calls: &mut [u64],
+    queue: &[u8],
+    t: usize,
+    id: usize,
+) -> Answer
+    ensures { λ r. ⌜ outcome r (state (now (states .exit)) (now (owners .exit)) (now (lists .entry)) (now (calls .exit)) (now (queue .entry)) d) ≡ give s (state (now (states .entry)) (now (owners .entry)) (now (lists .entry)) (now (calls .entry)) (now (queue .entry)) d) t id ⌝ }
+{
+    let v = verdict::checked_running(s, states, owners, lists, calls, queue, d, t);
+    match v {
+        Verdict::Failed(r) => Answer::Refused(r),
+        Verdict::Passed => steps::give::give_step(s, states, owners, calls, t, id),
+    }
+}
+
+// Switch: thread t runs.
+pub fn switch(
+    d: Device,
+    s: Shape,
+    states: &[u8],
+    owners: &[u8],
+    lists: &[u16],
+    calls: &[u64],
+    queue: &[u8],
+    t: usize,
+) -> Ran
+    ensures { λ r. ⌜ outcome (r .answer) (state (now (states .entry)) (now (owners .entry)) (now (lists .entry)) (now (calls .entry)) (now (queue .entry)) (r .device)) ≡ switch s (state (now (states .entry)) (now (owners .entry)) (now (lists .entry)) (now (calls .entry)) (now (queue .entry)) d) t ⌝ }
+{
+    let v = verdict::checked(s, states, owners, lists, calls, queue, d);
+    match v {
+        Verdict::Failed(r) => Ran {
+            answer: Answer::Refused(r),
+            device: d,
+        },
+        Verdict::Passed => steps::switch::switch_step(d, s, calls, t),
+    }
+}
+
+// Tick: the clock rises, and who waited until now is ready.
+pub fn tick(
+    d: Device,
+    s: Shape,
+    states: &[u8],
+    owners: &[u8],
+    lists: &[u16],
+    calls: &mut [u64],
+    queue: &mut [u8],
+) -> Ran
+    ensures { λ r. ⌜ outcome (r .answer) (state (now (states .entry)) (now (owners .entry)) (now (lists .entry)) (now (calls .exit)) (now (queue .exit)) (r .device)) ≡ tick s (state (now (states .entry)) (now (owners .entry)) (now (lists .entry)) (now (calls .entry)) (now (queue .entry)) d) ⌝ }
+{
+    let v = verdict::checked(s, states, owners, lists, calls, queue, d);
+    match v {
+        Verdict::Failed(r) => Ran {
+            answer: Answer::Refused(r),
+            device: d,
+        },
+        Verdict::Passed => steps::tick::tick_step(d, calls, queue),
+    }
+}
+
+// Whole: whether every byte has come home and no call is open.
+pub fn whole(
+    d: Device,
+    s: Shape,
+    states: &[u8],
+    owners: &[u8],
+    lists: &[u16],
+    calls: &[u64],
+    queue: &[u8],
+) -> Answer
+    ensures { λ r. ⌜ r ≡ whole s (state (now (states .entry)) (now (owners .entry)) (now (lists .entry)) (now (calls .entry)) (now (queue .entry)) d) ⌝ }
+{
+    let v = verdict::checked(s, states, owners, lists, calls, queue, d);
+    match v {
+        Verdict::Failed(r) => Answer::Refused(r),
+        Verdict::Passed => {
+            if questions::whole::is_whole(s, states, calls) {
+                return Answer::Whole;
+            }
+            Answer::NotWhole
+        }
+    }
+}
+
+// Cover: the undivided block over a byte offset, with its state.
+pub fn cover(
+    d: Device,
+    s: Shape,
+    states: &[u8],
+    owners: &[u8],
+    lists: &[u16],
+    calls: &[u64],
+    queue: &[u8],
+    offset: usize,
+) -> Covered
+    ensures { λ r. ⌜ r ≡ cover s (state (now (states .entry)) (now (owners .entry)) (now (lists .entry)) (now (calls .entry)) (now (queue .entry)) d) offset ⌝ }
+{
+    let v = verdict::checked(s, states, owners, lists, calls, queue, d);
+    match v {
+        Verdict::Failed(r) => Covered::Refused(r),
+        Verdict::Passed => questions::cover::cover_at(s, states, offset),
+    }
+}
+
+// Map: the ids of all undivided blocks by address into the row.
+pub fn map(
+    d: Device,
+    s: Shape,
+    states: &[u8],
+    owners: &[u8],
+    lists: &[u16],
+    calls: &[u64],
+    queue: &[u8],
+    row: &mut [u32],
+) -> Mapped
+    ensures { λ r. ⌜ mapOutcome r (now (row .exit)) ≡ mapPool s (state (now (states .entry)) (now (owners .entry)) (now (lists .entry)) (now (calls .entry)) (now (queue .entry)) d) (now (row .entry)) ⌝ }
+{
+    let v = verdict::checked(s, states, owners, lists, calls, queue, d);
+    match v {
+        Verdict::Failed(r) => Mapped::Refused(r),
+        Verdict::Passed => questions::map::map_row(s, states, row),
+    }
+}
