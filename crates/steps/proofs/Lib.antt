@@ -3,3 +3,4 @@ pub mod Asks
 pub mod Switches
 pub mod Moves
 pub mod Gives
+pub mod Branches

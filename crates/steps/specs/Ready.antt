@@ -7,7 +7,7 @@ use Prim.Native.Nat.{ℕ, _+_, _*_, _-_, _≤_, _<_}
 use lib.ListN.{length, getD}
 use Rattle.shape.specs.declared.Shape.{Shape}
 use Rattle.shape.specs.Limits.{parts, allowed}
-use Rattle.shape.specs.Blocks.{count, blocks}
+use Rattle.shape.specs.Blocks.{count, blocks, levelFor}
 use Rattle.rules.specs.declared.Call.{Call}
 use Rattle.rules.specs.Numbers.{ASKED, CELLS}
 use Rattle.rules.specs.Tables.{freeList}
@@ -82,3 +82,7 @@ pub record Gives (s : Shape) (states owners calls : List ℕ) (t : ℕ) : Type 0
   pub whole : length states ≡ blocks s
   pub owned : length owners ≡ blocks s
   pub small : t < 8
+
+pub record Divides (s : Shape) (states owners lists calls : List ℕ) (t : ℕ) (c : Call) : Type 0 where
+  pub grants : Grants s states owners calls t c
+  pub splits : c .level < levelFor s (c .size) → Splits s states lists calls t c

@@ -7,8 +7,8 @@ ghost use mathlib.Core.List.{List};
 ghost use Prim.Native.Nat.{ℕ};
 ghost use Rattle.rules.specs.declared.Device.{Device};
 ghost use Rattle.rules.specs.Tables.{state};
-ghost use Rattle.rules.specs.Steps.{outcome, splitStep, grantStep};
-ghost use Rattle.steps.specs.Ready.{Splits, Grants};
+ghost use Rattle.rules.specs.Steps.{outcome, splitStep, grantStep, divideStep};
+ghost use Rattle.steps.specs.Ready.{Splits, Grants, Divides};
 
 // Split: the block becomes DIVIDED, its first part ALLOCATING and in hand, the others FREE and listed.
 pub fn split_step(
@@ -53,4 +53,24 @@ pub fn grant_step(
     lists::states::put_state(s, owners, l, b, (t + 1) as u8);
     calls::call::put_call(calls, t, Call::closed());
     Answer::Granted(s.id(l, b))
+}
+
+// A dividing call goes on: split above its target, grant at it.
+pub fn divide_step(
+    s: Shape,
+    states: &mut [u8],
+    owners: &mut [u8],
+    lists: &mut [u16],
+    calls: &mut [u64],
+    t: usize,
+    c: Call,
+) -> Answer
+    requires { ⌜ Divides s (now states) (now owners) (now lists) (now calls) t c ⌝ }
+    ensures { λ r. ⌜ ((queue : List ℕ) (d : Device) → outcome r (state (now (states .exit)) (now (owners .exit)) (now (lists .exit)) (now (calls .exit)) queue d) ≡ divideStep s (state (now (states .entry)) (now (owners .entry)) (now (lists .entry)) (now (calls .entry)) queue d) t c) ⌝ }
+{
+    let target = s.level_for(c.size);
+    if c.level < target {
+        return split_step(s, states, lists, calls, t, c);
+    }
+    grant_step(s, states, owners, calls, t, c)
 }

@@ -2,6 +2,7 @@
 pub mod ask;
 pub mod divide;
 pub mod give;
+pub mod go_on;
 pub mod look;
 pub mod release;
 pub mod switch;

@@ -7,7 +7,7 @@ ghost use mathlib.Core.List.{List};
 ghost use Prim.Native.Nat.{ℕ};
 ghost use Rattle.rules.specs.declared.Device.{Device};
 ghost use Rattle.rules.specs.Tables.{state};
-ghost use Rattle.rules.specs.Steps.{outcome, mergeStep, settleStep};
+ghost use Rattle.rules.specs.Steps.{outcome, mergeStep, settleStep, releaseStep};
 ghost use Rattle.steps.specs.Ready.{Merges, Settles};
 
 // Merge: the buddies leave the list, all parts become NOEXIST, the parent FREEING and in hand.
@@ -52,4 +52,23 @@ pub fn settle_step(
     let woken = calls::wake::wake_all(calls, queue);
     calls::queue::empty(queue);
     Answer::Settled(woken)
+}
+
+// A releasing call goes on: merge below level 0 with its buddies FREE, settle otherwise.
+pub fn release_step(
+    s: Shape,
+    states: &mut [u8],
+    lists: &mut [u16],
+    calls: &mut [u64],
+    queue: &mut [u8],
+    t: usize,
+    c: Call,
+) -> Answer
+    requires { ⌜ Settles s (now states) (now lists) (now calls) (now queue) t c ⌝ }
+    ensures { λ r. ⌜ ((owners : List ℕ) (d : Device) → outcome r (state (now (states .exit)) owners (now (lists .exit)) (now (calls .exit)) (now (queue .exit)) d) ≡ releaseStep s (state (now (states .entry)) owners (now (lists .entry)) (now (calls .entry)) (now (queue .entry)) d) t c) ⌝ }
+{
+    if lists::states::merges(s, states, c.level, c.block) {
+        return merge_step(s, states, lists, calls, t, c);
+    }
+    settle_step(s, states, lists, calls, queue, t, c)
 }
