@@ -1,3 +1,4 @@
 pub mod Tree
 pub mod Runs
 pub mod Room
+pub mod Tables
