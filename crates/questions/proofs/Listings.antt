@@ -5,21 +5,21 @@ use mathlib.Core.Bool.{Bool, true, false, cond, _&&_, false≢true}
 use mathlib.Core.List.{List, [], _∷_, _++_, append-assoc, append-nil}
 use Prim.Native.Nat.{ℕ, zero, suc, _+_, _*_, _-_, _^_, _≤_, _<_}
 use native.Mathlib.Nat.{add-zero, suc-mul, one-mul, mul-add, mul-one, mul-le-mul-left, mul-le-mul-right, one-le-pow, pow-succ'}
-use native.Mathlib.Numerals.{add-one}
+use native.Mathlib.Numerals.{add-one, sub-one}
 use native.Mathlib.Omega.{arith}
 use lib.ListN.{length, getD, set, length-append}
-use lib.Seq.{sets, set-out, length-sets}
+use lib.Seq.{sets, set-out}
 use lib.Dec.{eqb, ltb}
 use borrow.Author.Tests.{lt-ltb, ltb-true}
 use Rattle.laws.specs.Tests.{both}
 use Rattle.shape.specs.declared.Shape.{Shape}
 use Rattle.shape.specs.Limits.{parts}
-use Rattle.shape.specs.Blocks.{id, count, place}
+use Rattle.shape.specs.Blocks.{id, place}
 use Rattle.shape.specs.Laws.{limits, parts-pos, count-next, count-range}
 use Rattle.rules.specs.Numbers.{DIVIDED}
 use Rattle.rules.specs.Tables.{stateAt}
 use Rattle.rules.specs.Questions.{listed, mapBlock}
-use Rattle.questions.specs.Listing.{levelOver, Listable, Listed}
+use Rattle.questions.specs.Listing.{levelAbove, Listable, Listed}
 
 -- the test of a block below which there is a level
 pub deep : (depth : ℕ) (v : Bool) → (ltb 0 depth && v) ≡ true → 0 < depth
@@ -43,9 +43,9 @@ pub single-out : (row : List ℕ) (at i : ℕ) → length row ≤ at → Listed 
 single-out row at i h = record { answered = refl; written = sym (set-out row at i h) }
 
 pub behind :
-    (row between after xs ys : List ℕ) (at middle next : ℕ) → Listed row at xs middle between →
+    {row between after xs ys : List ℕ} {at middle next : ℕ} → Listed row at xs middle between →
     Listed between middle ys next after → Listed row at (xs ++ ys) next after
-behind row between after xs ys at middle next p q =
+behind {row} {between} {after} {xs} {ys} {at} p q =
     record {
       answered = omega (arith, p .answered, q .answered, length-append xs ys);
       written = q .written ∙ rw (p .written, p .answered) (sym (sets-append row xs ys at));
@@ -84,21 +84,19 @@ mapBlock-most s states (suc depth) l b =
     pick true h = rw pow-succ' h
     pick false h = one-le-pow (suc depth) (parts s) (parts-pos s)
 
+deeper : (s : Shape) (depth : ℕ) → suc depth < s .levels → levelAbove s depth ≡ levelAbove s (suc depth) + 1
+deeper s depth h = omega arith
+
 -- a divided block, whose state stands at p, lists its parts, and any other its id
 pub divided :
-    (s : Shape) (states : List ℕ) (depth b p : ℕ) → depth < s .levels → p ≡ place s (levelOver s depth) b →
+    (s : Shape) (states : List ℕ) (depth b p : ℕ) → depth < s .levels → p ≡ place s (levelAbove s depth) b →
     (ltb 0 depth && eqb (getD states p 0) DIVIDED) ≡ true →
-    mapBlock s states depth (levelOver s depth) b
-    ≡ listed (mapBlock s states (depth - 1) (levelOver s (depth - 1))) (parts s * b) (parts s)
+    mapBlock s states depth (levelAbove s depth) b
+    ≡ listed (mapBlock s states (depth - 1) (levelAbove s (depth - 1))) (parts s * b) (parts s)
 unfolding mapBlock
 divided s states zero b p k q e = absurd (false≢true e)
-divided s states (suc depth) b p k q e = rw (rw q at (both (ltb 0 (suc depth)) _ e .1), less, deeper)
-  where
-    less : suc depth - 1 ≡ depth
-    less = omega arith
-
-    deeper : s .levels - 1 - suc depth + 1 ≡ s .levels - 1 - depth
-    deeper = omega arith
+divided s states (suc depth) b p k q e =
+    rw (rw q at (both (ltb 0 (suc depth)) _ e .1), sub-one (suc depth), deeper s depth k)
 
 pub undivided :
     (s : Shape) (states : List ℕ) (depth l b p : ℕ) → p ≡ place s l b →
@@ -107,40 +105,40 @@ unfolding mapBlock
 undivided s states zero l b p q e = refl
 undivided s states (suc depth) l b p q e = rw (rw (lt-ltb 0 (suc depth) (omega arith), q) at e)
 
--- the number of a block that can be listed, and its id
-pub block-most : (s : Shape) (states : List ℕ) (at depth b n : ℕ) → Listable s states at depth b n → b + n ≤ 4096
-block-most s states at depth b n p =
-    omega (arith, p .block, count-range s (levelOver s depth) (limits s (p .allowed)) (omega (arith, p .depth)) .1)
+-- the numbers of blocks that can be listed, the places of their ids, and a block's id
+pub most :
+    {s : Shape} {states : List ℕ} {at depth b n : ℕ} → Listable s states at depth b n →
+    (b + n ≤ 4096) × (at + n * parts s ^ depth ≤ 4096)
+most {s} {states} {at} {depth} p = (
+  omega (arith, p .block, count-range s (levelAbove s depth) (limits s (p .allowed)) (omega (arith, p .depth))),
+  omega (arith, p .place, count-range s (s .levels - 1) (limits s (p .allowed)) (omega (arith, p .depth))),
+)
 
 pub id-most :
-    (s : Shape) (states : List ℕ) (at depth b : ℕ) → Listable s states at depth b 1 →
-    id s (levelOver s depth) b < 4096 * 4096
-id-most s states at depth b p = omega (arith, block-most s states at depth b 1 p, limits s (p .allowed))
+    {s : Shape} {states : List ℕ} {at depth b : ℕ} → Listable s states at depth b 1 →
+    id s (levelAbove s depth) b < 4096 * 4096
+id-most {s} p = omega (arith, most p, limits s (p .allowed))
 
 -- the parts of a block can be listed where it can, and each of them where all can
 pub parts-listable :
-    (s : Shape) (states : List ℕ) (at depth b : ℕ) → 0 < depth → Listable s states at depth b 1 →
+    {s : Shape} {states : List ℕ} {at depth b : ℕ} → 0 < depth → Listable s states at depth b 1 →
     Listable s states at (depth - 1) (parts s * b) (parts s)
-parts-listable s states at zero b h p = absurd (omega arith)
-parts-listable s states at (suc depth) b h p =
-    record {
+parts-listable {s} {depth = zero} h p = absurd (omega arith)
+parts-listable {s} {depth = suc depth} h p =
+    rw (sub-one (suc depth))
+    (record {
       allowed = p .allowed;
       states = p .states;
-      depth = omega arith;
-      block = rw (deeper (p .depth), count-next) (rw (mul-add, mul-one) at (mul-le-mul-left (parts s) (p .block)));
-      place = rw less (rw (one-mul, pow-succ') at (p .place));
-    }
-  where
-    less : suc depth - 1 ≡ depth
-    less = omega arith
-
-    deeper : suc depth < s .levels → s .levels - 1 - (suc depth - 1) ≡ s .levels - 1 - suc depth + 1
-    deeper k = omega arith
+      depth = omega (arith, p .depth);
+      block =
+          rw (deeper s depth (p .depth), count-next) (rw (mul-add, mul-one) at (mul-le-mul-left (parts s) (p .block)));
+      place = rw (one-mul, pow-succ') at (p .place);
+    })
 
 pub part-listable :
-    (s : Shape) (states : List ℕ) (at depth b n i next : ℕ) → Listable s states at depth b n → i < n →
-    next ≡ at + length (listed (mapBlock s states depth (levelOver s depth)) b i) → Listable s states next depth (b + i) 1
-part-listable s states at depth b n i next p h e =
+    {s : Shape} {states : List ℕ} {at depth b n i next : ℕ} → Listable s states at depth b n → i < n →
+    next ≡ at + length (listed (mapBlock s states depth (levelAbove s depth)) b i) → Listable s states next depth (b + i) 1
+part-listable {s} {states} {at} {depth} {b} {n} {i} p h e =
     record {
       allowed = p .allowed;
       states = p .states;
@@ -150,14 +148,8 @@ part-listable s states at depth b n i next p h e =
           omega (
             arith,
             p .place,
-            listed-most (mapBlock s states depth (levelOver s depth)) (parts s ^ depth) (mapBlock-most s states depth (levelOver s depth)) b i,
+            listed-most (mapBlock s states depth _) (parts s ^ depth) (mapBlock-most s states depth (levelAbove s depth)) b i,
             mul-le-mul-right {m = suc i} {n = n} (parts s ^ depth) h,
             suc-mul i (parts s ^ depth),
           );
     }
-
--- once all parts are listed
-pub all-listed :
-    (f : ℕ → List ℕ) (b n i : ℕ) (row : List ℕ) (at next : ℕ) (after : List ℕ) → i ≡ n → Listed row at (listed f b i) next after →
-    Listed row at (listed f b n) next after
-all-listed f b n i row at next after e p = rw (← e) p

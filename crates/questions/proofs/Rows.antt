@@ -1,10 +1,10 @@
 -- Laws of map's row: the pool's top blocks are listed as its parts, and an empty row is written nowhere, so listing in it only counts.
 -- Assumes nothing.
-use mathlib.Core.Path.{_≡_, refl, sym, _∙_, ap}
+use mathlib.Core.Path.{_≡_, refl, _∙_, ap}
 use mathlib.Core.Bool.{true}
 use mathlib.Core.List.{List, [], _∷_, _++_}
-use Prim.Native.Nat.{ℕ, suc, _+_, _*_, _-_, _^_, _≤_, _<_}
-use native.Mathlib.Nat.{zero-add, sub-self}
+use Prim.Native.Nat.{ℕ, suc, _-_, _≤_, _<_}
+use native.Mathlib.Nat.{zero-add, sub-self, le-refl}
 use native.Mathlib.Omega.{arith}
 use lib.ListN.{length}
 use lib.Seq.{sets}
@@ -12,12 +12,12 @@ use borrow.Author.Tests.{lt-ltb, le-ltb}
 use Rattle.shape.specs.declared.Shape.{Shape}
 use Rattle.shape.specs.Limits.{allowed}
 use Rattle.shape.specs.Blocks.{count, blocks}
-use Rattle.shape.specs.Laws.{limits, count-top, count-range}
+use Rattle.shape.specs.Laws.{limits, count-top}
 use Rattle.rules.specs.declared.Refusal.the-variants.{RowTooShort}
 use Rattle.rules.specs.declared.Mapped.{Mapped}
 use Rattle.rules.specs.declared.Mapped.the-variants.{Blocks}
 use Rattle.rules.specs.Questions.{listed, mapBlock, mapIds, mapOutcome, mapRow}
-use Rattle.questions.specs.Listing.{levelOver, Listable, Listed}
+use Rattle.questions.specs.Listing.{levelAbove, Listable, Listed}
 
 pub pool-listable :
     (s : Shape) (states : List ℕ) → allowed s ≡ true → length states ≡ blocks s →
@@ -29,12 +29,12 @@ pool-listable s states h e =
       states = e;
       depth = omega (arith, limits s h);
       block = rw (sub-self, count-top) (omega arith);
-      place = rw zero-add (count-range s (s .levels - 1) (limits s h) (omega (arith, limits s h)) .1);
+      place = rw zero-add (le-refl _);
     }
 
 pub pool-ids :
     (s : Shape) (states : List ℕ) →
-    mapIds s states ≡ listed (mapBlock s states (s .levels - 1) (levelOver s (s .levels - 1))) 0 (s .tops)
+    mapIds s states ≡ listed (mapBlock s states (s .levels - 1) (levelAbove s (s .levels - 1))) 0 (s .tops)
 unfolding mapIds
 pool-ids s states = rw sub-self
 

@@ -11,16 +11,17 @@ use Rattle.shape.specs.Limits.{parts, allowed}
 use Rattle.shape.specs.Blocks.{count, blocks}
 
 -- the level that has this many levels below it
-abbrev pub levelOver : Shape → ℕ → ℕ
-levelOver s depth = s .levels - 1 - depth
+abbrev pub levelAbove : Shape → ℕ → ℕ
+levelAbove s depth = s .levels - 1 - depth
 
--- n blocks of that level from a block on, to be listed from a place on; each lists as many blocks of the deepest level as it has, at the most
+-- n blocks of that level, from a block on, can be listed from a place on: if each is divided down to the deepest level, the ids are as many as
+-- that level has blocks, at the most
 pub record Listable (s : Shape) (table : List ℕ) (at below first n : ℕ) : Type 0 where
   pub allowed : allowed s ≡ true
   pub states : length table ≡ blocks s
   pub depth : below < s .levels
-  pub block : first + n ≤ count s (levelOver s below)
-  pub place : at + n * parts s ^ below ≤ 4096
+  pub block : first + n ≤ count s (levelAbove s below)
+  pub place : at + n * parts s ^ below ≤ count s (s .levels - 1)
 
 -- ids are listed in a row from a place on, as far as it has places; the next place is answered
 pub record Listed (row : List ℕ) (at : ℕ) (ids : List ℕ) (next : ℕ) (after : List ℕ) : Type 0 where

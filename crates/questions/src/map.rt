@@ -8,9 +8,10 @@ ghost use lib.ListN.{length};
 ghost use Rattle.shape.specs.Limits.{allowed};
 ghost use Rattle.shape.specs.Blocks.{blocks};
 ghost use Rattle.rules.specs.Questions.{listed, mapBlock, mapIds, mapOutcome, mapRow};
-ghost use Rattle.questions.specs.Listing.{levelOver, Listable, Listed};
+ghost use Rattle.questions.specs.Listing.{levelAbove, Listable, Listed};
 
-// Lists a block from a place of the row on, a DIVIDED one as its parts and any other by its id; answers the next place.
+// Lists a block from a place of the row on, a DIVIDED one as its parts and any other by its id, and answers the next place;
+// behind the row's end it only counts.
 fn list_block(
     s: Shape,
     states: &[u8],
@@ -20,7 +21,8 @@ fn list_block(
     block: usize,
 ) -> usize
     requires { ⌜ Listable s (now states) at depth block 1 ⌝ }
-    ensures { λ r. ⌜ Listed (now (row .entry)) at (mapBlock s (now (states .entry)) depth (levelOver s depth) block) r (now (row .exit)) ⌝ }
+    ensures { λ r.
+        ⌜ Listed (now (row .entry)) at (mapBlock s (now (states .entry)) depth (levelAbove s depth) block) r (now (row .exit)) ⌝ }
 {
     let level = s.levels - 1 - depth;
     let state = states[s.place(level, block)];
@@ -42,7 +44,7 @@ fn list_block(
     next
 }
 
-// Lists parts from a place of the row on, each as a block; answers the next place.
+// Lists parts from a place of the row on, each as a block, and answers the next place.
 fn list_parts(
     s: Shape,
     states: &[u8],
@@ -53,7 +55,9 @@ fn list_parts(
     count: usize,
 ) -> usize
     requires { ⌜ Listable s (now states) at depth block count ⌝ }
-    ensures { λ r. ⌜ Listed (now (row .entry)) at (listed (mapBlock s (now (states .entry)) depth (levelOver s depth)) block count) r (now (row .exit)) ⌝ }
+    ensures { λ r.
+        ⌜ Listed (now (row .entry)) at (listed (mapBlock s (now (states .entry)) depth (levelAbove s depth)) block count) r
+        (now (row .exit)) ⌝ }
 {
     let mut next = at;
     let mut i = 0;
@@ -72,7 +76,7 @@ fn list_pool(s: Shape, states: &[u8], row: &mut [u32]) -> usize
     list_parts(s, states, row, 0, s.levels - 1, 0, s.tops)
 }
 
-// The map in a lent row; a row that is too short is refused before anything is written.
+// The map in a lent row: it is counted first, so that a row that is too short is refused untouched.
 pub fn map_row(s: Shape, states: &[u8], row: &mut [u32]) -> Mapped
     requires { ⌜ (allowed s ≡ true) × (length (now states) ≡ blocks s) ⌝ }
     ensures { λ r. ⌜ mapOutcome r (now (row .exit)) ≡ mapRow s (now (states .entry)) (now (row .entry)) ⌝ }

@@ -47,7 +47,9 @@ fn none_open(calls: &[u64], threads: usize) -> bool
 // Whether the pool is whole.
 pub fn is_whole(s: Shape, states: &[u8], calls: &[u64]) -> bool
     requires { ⌜ (allowed s ≡ true) × (length (now states) ≡ blocks s) × (length (now calls) ≡ CELLS * s .threads) ⌝ }
-    ensures { λ r. ⌜ ((owners lists queue : List ℕ) (device : Device) → r ≡ isWhole s (state (now (states .entry)) owners lists (now (calls .entry)) queue device)) ⌝ }
+    ensures { λ r.
+        ⌜ ((owners lists queue : List ℕ) (device : Device) →
+        r ≡ isWhole s (state (now (states .entry)) owners lists (now (calls .entry)) queue device)) ⌝ }
 {
     let free = tops_free(states, s.tops);
     free & none_open(calls, s.threads)

@@ -1,7 +1,7 @@
 -- Which block of a level lies over a byte of the pool: a level's blocks fill the pool, so there is one.
 -- Assumes nothing.
 use mathlib.Core.Path.{_≡_, sym, _∙_, ap, subst}
-use Prim.Native.Nat.{ℕ, _+_, _*_, _-_, _/_, _%_, _^_, _≤_, _<_, _∣_}
+use Prim.Native.Nat.{ℕ, _+_, _*_, _-_, _/_, _^_, _≤_, _<_, _∣_}
 use native.Mathlib.Nat.{mul-assoc, mul-comm, dvd-trans, dvd-mul-left, dvd-mul-right, dvd-of-mod-eq-zero, div-mul-cancel, div-lt-iff-lt-mul, pos-of-ne-zero}
 use native.Mathlib.Omega.{arith}
 use lib.Pow.{pow-add}

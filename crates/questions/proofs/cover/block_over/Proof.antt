@@ -11,10 +11,11 @@ size-requires : tie.Need-size-requires
 size-requires c κs = omega (arith, limits (c .args .s) (c .pre .0))
 
 div-result : tie.Need-div-result
-div-result c = omega (arith, size-some (c .before .args .s) (c .before .args .level) (limits _ (c .before .pre .0)) (c .before .pre .2))
+div-result c = omega (arith, size-some _ _ (limits _ (c .before .pre .0)) (c .before .pre .2))
 
 returns : tie.Need-returns
-returns c = rw (c .size .ensures) (refl, over-inside (c .before .args .s) (c .before .args .level) (c .before .args .x) (limits _ (c .before .pre .0)) (c .before .pre .2) (c .before .pre .1))
+returns c =
+    rw (c .size .ensures) (refl, over-inside _ _ _ (limits _ (c .before .pre .0)) (c .before .pre .2) (c .before .pre .1))
 
 pub block-over-spec : {M : Type 1} → statement M
 block-over-spec = tie.close (tie.spec size-requires div-result returns)

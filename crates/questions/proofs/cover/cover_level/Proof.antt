@@ -1,42 +1,26 @@
 -- `questions::cover::cover_level` meets its contract: no level passed has an undivided block there, so the deepest is the one from here upward.
 -- Assumes nothing.
+use native.Mathlib.Numerals.{sub-one}
 use native.Mathlib.Omega.{arith}
 use mathlib.Core.Path.{_≡_, refl, sym, _∙_}
-use mathlib.Core.Bool.{Bool, true, false}
+use mathlib.Core.Bool.{Bool, true, false, cond}
 use mathlib.Core.List.{List}
 use Prim.Native.Nat.{ℕ, zero, suc, _-_, _/_, _≤_, _<_}
 use lib.ListN.{getD}
 use Rattle.shape.specs.declared.Shape.{Shape}
 use Rattle.shape.specs.Blocks.{size, place}
 use Rattle.shape.specs.Laws.{limits}
-use Rattle.rules.specs.Tables.{stateAt}
 use Rattle.rules.specs.Questions.{undivided, coverLevel}
 use Rattle.questions.proofs.cover.cover_level.Statement.{statement}
 use Rattle.questions.proofs.cover.cover_level.Tie as tie
 
--- what is tested is the state of the level's block over the offset
-tested :
-    (s : Shape) (states : List ℕ) (x l block at : ℕ) (v : Bool) → block ≡ x / size s l → at ≡ place s l block →
-    undivided (getD states at 0) ≡ v → undivided (stateAt s states l (x / size s l)) ≡ v
-tested s states x l block at v b p e = rw (p, b) at e
-
--- at a level where it is undivided, and at one where it is not
-here :
-    (s : Shape) (states : List ℕ) (x l : ℕ) → 0 < l → undivided (stateAt s states l (x / size s l)) ≡ true →
-    coverLevel s states x l ≡ l
+-- at a level below the top, where the state of the block over the offset stands at p and is tested
+step :
+    (s : Shape) (states : List ℕ) (x l block p : ℕ) (v : Bool) → 0 < l → block ≡ x / size s l → p ≡ place s l block →
+    undivided (getD states p 0) ≡ v → coverLevel s states x l ≡ cond v l (coverLevel s states x (l - 1))
 unfolding coverLevel
-here s states x zero h e = absurd (omega arith)
-here s states x (suc l) h e = rw e
-
-higher :
-    (s : Shape) (states : List ℕ) (x l : ℕ) → 0 < l → undivided (stateAt s states l (x / size s l)) ≡ false →
-    coverLevel s states x l ≡ coverLevel s states x (l - 1)
-unfolding coverLevel
-higher s states x zero h e = absurd (omega arith)
-higher s states x (suc l) h e = rw (e, less)
-  where
-    less : suc l - 1 ≡ l
-    less = omega arith
+step s states x zero block p v h b q e = absurd (omega arith)
+step s states x (suc l) block p v h b q e = rw (rw (q, b) at e, sub-one (suc l))
 
 top : (s : Shape) (states : List ℕ) (x l : ℕ) → l ≤ 0 → coverLevel s states x l ≡ 0
 unfolding coverLevel
@@ -65,8 +49,16 @@ shared-slice-read-state : tie.Need-shared-slice-read-state Inv-loop μ-loop
 shared-slice-read-state c = omega arith
 
 returns : tie.Need-returns Inv-loop μ-loop
-returns c =
-    (sym (c .before .before .before .before .before .loop .inv .1 ∙ here _ _ _ _ (omega arith) (tested _ (c .before .before .before .before .before .before .before .before .args .states .now) _ _ _ _ _ (c .before .before .before .block-over .ensures .0) (c .before .before .place .ensures .0) (c .if1 .taken))), omega arith)
+returns c = (
+  sym
+      (c .before .before .before .before .before .loop .inv .1
+      ∙ step _ (c .before .before .before .before .before .before .before .before .args .states .now) _ _ _ _ true
+      (omega arith)
+      (c .before .before .before .block-over .ensures .0)
+      (c .before .before .place .ensures .0)
+      (c .if1 .taken)),
+  omega arith,
+)
 
 sub-level-2 : tie.Need-sub-level-2 Inv-loop μ-loop
 sub-level-2 c = omega arith
@@ -75,11 +67,21 @@ loop-less : tie.Need-loop-less Inv-loop μ-loop
 loop-less c = omega arith
 
 loop-again : tie.Need-loop-again Inv-loop μ-loop
-loop-again c =
-    (omega arith, c .before .before .before .before .before .loop .inv .1 ∙ higher _ _ _ _ (omega arith) (tested _ (c .before .before .before .before .before .before .before .before .args .states .now) _ _ _ _ _ (c .before .before .before .block-over .ensures .0) (c .before .before .place .ensures .0) (c .if1 .left)))
+loop-again c = (
+  omega arith,
+  c .before .before .before .before .before .loop .inv .1
+      ∙ step _ (c .before .before .before .before .before .before .before .before .args .states .now) _ _ _ _ false
+      (omega arith)
+      (c .before .before .before .block-over .ensures .0)
+      (c .before .before .place .ensures .0)
+      (c .if1 .left),
+)
 
 returns-2 : tie.Need-returns-2 Inv-loop μ-loop
-returns-2 c = (sym (c .before .loop .inv .1 ∙ top _ _ _ _ (omega arith)), omega (arith, limits (c .before .before .before .before .args .s) (c .before .before .before .before .pre .0)))
+returns-2 c = (
+  sym (c .before .loop .inv .1 ∙ top _ _ _ _ (omega arith)),
+  omega (arith, limits (c .before .before .before .before .args .s) (c .before .before .before .before .pre .0)),
+)
 
 pub cover-level-spec : {M : Type 1} → statement M
 cover-level-spec =

@@ -2,7 +2,6 @@
 -- level, so parts' measure lies between: twice the depth for a block, and one more for parts. Each run of ids stands behind those before it.
 -- Assumes nothing.
 use mathlib.Core.Path.{_≡_, _∙_, ap}
-use mathlib.Core.List.{List}
 use Prim.Native.Nat.{ℕ, _+_, _*_, _-_, _≤_, _<_}
 use native.Mathlib.Omega.{arith}
 use lib.ListN.{length}
@@ -14,8 +13,8 @@ use Rattle.shape.specs.Limits.{parts}
 use Rattle.shape.proofs.Shape.id.Reads as id-reads
 use Rattle.shape.proofs.Shape.place.Reads as place-reads
 use Rattle.rules.specs.Questions.{listed, mapBlock}
-use Rattle.questions.specs.Listing.{levelOver, Listed}
-use Rattle.questions.proofs.Listings.{deep, none, single, single-out, behind, listed-more, divided, undivided, block-most, id-most, parts-listable, part-listable, all-listed}
+use Rattle.questions.specs.Listing.{levelAbove, Listed}
+use Rattle.questions.proofs.Listings.{deep, none, single, single-out, behind, listed-more, divided, undivided, most, id-most, parts-listable, part-listable}
 use Rattle.questions.proofs.map.list_block.Reads as list-block
 use Rattle.questions.proofs.map.list_block.Kinds as list-block-kinds
 use Rattle.questions.proofs.map.+list_block+list_parts.Lts-list_block as list-block-lts
@@ -54,49 +53,58 @@ parts-claims t = (list-block-below t, list-block.Post)
 
 abbrev Inv-loop : list-parts-lts.InvT-loop
 Inv-loop s states row₀ at depth block count next₀ i₀ row next i =
-    (i ≤ count) × Listed row₀ at (listed (mapBlock s states depth (levelOver s depth)) block i) next row
+    (i ≤ count) × Listed row₀ at (listed (mapBlock s states depth (levelAbove s depth)) block i) next row
 
 abbrev μ-loop : list-parts-lts.MeasureT-loop
 μ-loop s states row₀ at depth block count next₀ i₀ row next i = count - i
 
 module _ (t : ℕ) where
   block-sub-level : list-block-lts.Need-sub-level (block-claims t) (list-block-at t) list-block.Post
-  block-sub-level c = omega (arith, c .before .before .before .pre .1 .depth)
+  block-sub-level c = omega arith
 
   block-sub-level-2 : list-block-lts.Need-sub-level-2 (block-claims t) (list-block-at t) list-block.Post
-  block-sub-level-2 c = omega (arith, c .before .before .before .pre .1 .depth)
+  block-sub-level-2 c = omega arith
 
   block-place-requires : list-block-lts.Need-place-requires (block-claims t) (list-block-at t) list-block.Post
-  block-place-requires c κs = (c .before .before .before .pre .1 .allowed, omega (arith, c .before .before .before .pre .1 .depth), omega (arith, c .before .before .before .pre .1 .block))
+  block-place-requires c κs = search needs
 
   block-shared-slice-read-state : list-block-lts.Need-shared-slice-read-state (block-claims t) (list-block-at t) list-block.Post
-  block-shared-slice-read-state c = omega (arith, c .before .before .before .before .before .pre .1 .states)
+  block-shared-slice-read-state c = omega arith
 
   block-sub-list-parts : list-block-lts.Need-sub-list-parts (block-claims t) (list-block-at t) list-block.Post
   block-sub-list-parts c = deep _ _ (c .before .if1 .taken)
 
   block-mul-list-parts : list-block-lts.Need-mul-list-parts (block-claims t) (list-block-at t) list-block.Post
-  block-mul-list-parts c = omega (arith, block-most _ _ _ _ _ _ (c .before .before .before .before .before .before .before .pre .1))
+  block-mul-list-parts c = omega (arith, most (c .before .before .before .before .before .before .before .pre .1))
 
   block-list-parts-requires : list-block-lts.Need-list-parts-requires (block-claims t) (list-block-at t) list-block.Post
   unfolding parts
-  block-list-parts-requires c κs = (omega (arith, deep (c .before .before .before .before .before .before .before .args .depth) _ (c .before .if1 .taken), c .before .before .before .before .before .before .before .pre .0), parts-listable _ _ _ _ _ (deep _ _ (c .before .if1 .taken)) (c .before .before .before .before .before .before .before .pre .1))
+  block-list-parts-requires c κs = (
+    omega (arith, deep (c .before .before .before .before .before .before .before .args .depth) _ (c .before .if1 .taken)),
+    parts-listable (deep _ _ (c .before .if1 .taken)) (c .before .before .before .before .before .before .before .pre .1),
+  )
 
   block-same-length : list-block-lts.Need-same-length (block-claims t) (list-block-at t) list-block.Post
   block-same-length c = c .before .before .list-parts .kept .1 .1 .0
 
   block-returns : list-block-lts.Need-returns (block-claims t) (list-block-at t) list-block.Post
   unfolding parts
-  block-returns c = rw (divided _ _ _ _ _ (c .before .before .before .before .before .before .before .before .before .before .pre .1 .depth) (c .before .before .before .before .before .before .place .ensures .0) (c .before .before .before .before .if1 .taken)) (c .before .before .list-parts .ensures)
+  block-returns c =
+      rw
+      (divided _ _ _ _ _
+      (c .before .before .before .before .before .before .before .before .before .before .pre .1 .depth)
+      (c .before .before .before .before .before .before .place .ensures .0)
+      (c .before .before .before .before .if1 .taken))
+      (c .before .before .list-parts .ensures)
 
   block-add-next : list-block-lts.Need-add-next (block-claims t) (list-block-at t) list-block.Post
-  block-add-next c = omega (arith, c .before .before .before .before .before .before .pre .1 .place)
+  block-add-next c = omega (arith, most (c .before .before .before .before .before .before .pre .1))
 
   block-id-requires : list-block-lts.Need-id-requires (block-claims t) (list-block-at t) list-block.Post
-  block-id-requires c κs = (c .before .before .before .before .before .before .before .pre .1 .allowed, omega (arith, c .before .before .before .before .before .before .before .pre .1 .depth), omega (arith, c .before .before .before .before .before .before .before .pre .1 .block))
+  block-id-requires c κs = search needs
 
   block-cast-row : list-block-lts.Need-cast-row (block-claims t) (list-block-at t) list-block.Post
-  block-cast-row c = omega (arith, id-most _ _ _ _ _ (c .before .before .before .before .before .before .before .before .pre .1), c .id .ensures)
+  block-cast-row c = omega (arith, id-most (c .before .before .before .before .before .before .before .before .pre .1))
 
   block-mul-row : list-block-lts.Need-mul-row (block-claims t) (list-block-at t) list-block.Post
   block-mul-row c = search needs
@@ -108,20 +116,28 @@ module _ (t : ℕ) where
   block-same-length-2 c = search needs
 
   block-returns-2 : list-block-lts.Need-returns-2 (block-claims t) (list-block-at t) list-block.Post
-  block-returns-2 c = rw (undivided _ _ _ _ _ _ (c .before .before .before .before .place .ensures .0) (c .before .before .if1 .left), ← c .id .ensures) (single _ _ _)
+  block-returns-2 c =
+      rw
+      (undivided _ _ _ _ _ _ (c .before .before .before .before .place .ensures .0) (c .before .before .if1 .left), ← c .id .ensures)
+      (single _ _ _)
 
   block-returns-3 : list-block-lts.Need-returns-3 (block-claims t) (list-block-at t) list-block.Post
-  block-returns-3 c = rw (undivided _ _ _ _ _ _ (c .before .before .before .place .ensures .0) (c .before .if1 .left)) (single-out _ _ _ (c .if2 .left))
+  block-returns-3 c =
+      rw (undivided _ _ _ _ _ _ (c .before .before .before .place .ensures .0) (c .before .if1 .left))
+      (single-out _ _ _ (c .if2 .left))
 
   parts-loop-holds : list-parts-lts.Need-loop-holds (parts-claims t) (list-parts-at t) list-parts.Post Inv-loop μ-loop
   unfolding listed
   parts-loop-holds c = (omega arith, none _ _)
 
   parts-add-list-block : list-parts-lts.Need-add-list-block (parts-claims t) (list-parts-at t) list-parts.Post Inv-loop μ-loop
-  parts-add-list-block c = omega (arith, block-most _ _ _ _ _ _ (c .before .before .before .before .before .pre .1))
+  parts-add-list-block c = omega (arith, most (c .before .before .before .before .before .pre .1))
 
   parts-list-block-requires : list-parts-lts.Need-list-block-requires (parts-claims t) (list-parts-at t) list-parts.Post Inv-loop μ-loop
-  parts-list-block-requires c κs = (omega (arith, c .before .before .before .before .before .pre .0), part-listable _ _ _ _ _ _ _ _ (c .before .before .before .before .before .pre .1) (c .before .loop-test .taken) (c .before .before .loop .inv .1 .answered))
+  parts-list-block-requires c κs = (
+    omega arith,
+    part-listable (c .before .before .before .before .before .pre .1) (c .before .loop-test .taken) (c .before .before .loop .inv .1 .answered),
+  )
 
   parts-add-i : list-parts-lts.Need-add-i (parts-claims t) (list-parts-at t) list-parts.Post Inv-loop μ-loop
   parts-add-i c = omega arith
@@ -130,13 +146,18 @@ module _ (t : ℕ) where
   parts-loop-less c = omega arith
 
   parts-loop-again : list-parts-lts.Need-loop-again (parts-claims t) (list-parts-at t) list-parts.Post Inv-loop μ-loop
-  parts-loop-again c = (omega arith, rw listed-more (behind _ _ _ _ _ _ _ _ (c .before .before .before .before .before .loop .inv .1) (c .before .before .list-block .ensures)))
+  parts-loop-again c = (
+    omega arith,
+    rw listed-more (behind (c .before .before .before .before .before .loop .inv .1) (c .before .before .list-block .ensures)),
+  )
 
   parts-same-length : list-parts-lts.Need-same-length (parts-claims t) (list-parts-at t) list-parts.Post Inv-loop μ-loop
   parts-same-length c = ap length (c .before .loop .inv .1 .written) ∙ simp length-sets
 
   parts-returns : list-parts-lts.Need-returns (parts-claims t) (list-parts-at t) list-parts.Post Inv-loop μ-loop
-  parts-returns c = all-listed _ _ _ _ _ _ _ _ (omega arith) (c .before .loop .inv .1)
+  parts-returns c =
+      let e : c .before .loop .i ≡ c .before .before .before .before .args .count = omega arith in
+      rw (← e) (c .before .loop .inv .1)
 
 pub +list-block+list-parts-spec : {M : Type 1} → statement M
 +list-block+list-parts-spec =

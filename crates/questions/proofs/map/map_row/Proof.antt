@@ -27,7 +27,10 @@ same-length-2 : tie.Need-same-length-2
 same-length-2 c = search needs
 
 returns-2 : tie.Need-returns-2
-returns-2 c = mapped _ _ _ _ _ (c .before .before .before .before .before .before .before .list-pool .ensures) _ _ (c .before .before .before .before .if1 .left) (c .before .before .list-pool2 .ensures)
+returns-2 c =
+    mapped _ _ _ _ _ (c .before .before .before .before .before .before .before .list-pool .ensures) _ _
+    (c .before .before .before .before .if1 .left)
+    (c .before .before .list-pool2 .ensures)
 
 pub map-row-spec : {M : Type 1} → statement M
 map-row-spec =

@@ -2,7 +2,7 @@
 -- Assumes nothing.
 use native.Mathlib.Omega.{arith}
 use mathlib.Core.Path.{_≡_, ap}
-use Prim.Native.Nat.{ℕ, _-_, _≤_}
+use Prim.Native.Nat.{_-_, _≤_}
 use lib.Dec.{eqb}
 use Rattle.laws.specs.Tests.{every}
 use Rattle.rules.specs.declared.Call.{Call}
@@ -31,7 +31,10 @@ loop-less : tie.Need-loop-less Inv-loop μ-loop
 loop-less c = omega arith
 
 loop-again : tie.Need-loop-again Inv-loop μ-loop
-loop-again c = (omega arith, more _ _ _ _ (c .before .before .before .loop .inv .1) (ap (λ (call : Call). eqb (call .stage) CLOSED) (c .before .call-of .ensures)))
+loop-again c = (
+  omega arith,
+  more _ _ _ _ (c .before .before .before .loop .inv .1) (ap (λ (call : Call). eqb (call .stage) CLOSED) (c .before .call-of .ensures)),
+)
 
 returns : tie.Need-returns Inv-loop μ-loop
 returns c = all _ _ _ _ (omega arith) (omega arith) (c .before .loop .inv .1)
