@@ -6,3 +6,5 @@ pub mod Bytes
 pub mod Whole
 pub mod RoomBytes
 pub mod Cover
+pub mod Requests
+pub mod Found

@@ -8,7 +8,7 @@ use native.Mathlib.Omega.{arith}
 use lib.Arith.{le-zero}
 use Rattle.rules.specs.Numbers.{FREE}
 use Rattle.forest.specs.Tree.{Tree, Sizes}
-use Rattle.forest.specs.Runs.{FreeTo, Free, Run, free-run, free-block, free-inside}
+use Rattle.forest.specs.Runs.{FreeTo, Free, Run, run-deeper, free-run, free-block, free-inside}
 
 -- some level up to k has a FREE block
 abbrev pub Room : (ℕ → ℕ → ℕ) → ℕ → Type 0
@@ -48,7 +48,14 @@ module _ {p levels tops : ℕ} {st : ℕ → ℕ → ℕ} {size : ℕ → ℕ} (
       block : (b : ℕ) → FreeTo size st k (b * size k) → Room st k
       block b (l, w, e) = (l, b * size k / size l, w, e)
 
--- where more bytes are free a level has room that had room, and so has each deeper one
+-- where more bytes are free a run that was free is free, and so is each deeper level's in it
+pub run-freer :
+    {p levels tops : ℕ} {here there : ℕ → ℕ → ℕ} {size : ℕ → ℕ} → Tree p levels tops here → Tree p levels tops there →
+    Sizes p levels size → Freer levels size here there → (k m y : ℕ) → k ≤ m → m < levels →
+    Run levels size here k (y / size k) → Run levels size there m (y / size m)
+run-freer t u z f k m y h q r x e = f x (run-deeper t z k m y h q r x e)
+
+-- and a level that had room has room, and so has each deeper one
 pub room-freer :
     {p levels tops : ℕ} {here there : ℕ → ℕ → ℕ} {size : ℕ → ℕ} → Tree p levels tops here → Tree p levels tops there →
     Sizes p levels size → Freer levels size here there → (k m : ℕ) → k ≤ m → m < levels → Room here k → Room there m

@@ -1,4 +1,4 @@
--- The blocks of valid tables are such trees, and a shape's sizes are such sizes.
+-- The blocks of valid tables have the laws of Tree, and the sizes of an allowed shape those of Sizes.
 -- Assumes nothing.
 use mathlib.Core.Path.{_≡_, refl, sym, _∙_, ap}
 use mathlib.Core.Bool.{Bool, true, false, not, cond, Bool·beq, true≢false, false≢true}
@@ -27,6 +27,7 @@ use Rattle.forest.specs.Tree.{Tree, Sizes, differ}
 unfoldable pub stateIn : Shape → List ℕ → ℕ → ℕ → ℕ
 stateIn s states l b = cond (ltb b (count s l)) (stateAt s states l b) NOEXIST
 
+-- in the shape it is what stands in the tables
 pub state-inside : (s : Shape) (states : List ℕ) (l b : ℕ) → b < count s l → stateIn s states l b ≡ stateAt s states l b
 unfolding stateIn
 state-inside s states l b h = rw (lt-ltb b (count s l) h)
@@ -90,7 +91,9 @@ module _ (s : Shape) (states : List ℕ) where
           pick false true p q w = (λ n. eqb-true _ _ q, λ d. eqb-false _ _ p)
           pick false false p q w = absurd (false≢true w)
 
-      go : Dec (c < count s (suc l)) → (stateIn s states (suc l) c ≢ NOEXIST) ↔ (stateIn s states l (c / parts s) ≡ DIVIDED)
+      go :
+          Dec (c < count s (suc l)) →
+          (stateIn s states (suc l) c ≢ NOEXIST) ↔ (stateIn s states l (c / parts s) ≡ DIVIDED)
       go (yes w) =
           let k = parent-inside s l c .1 w in
           rw (state-inside s states (suc l) c w, state-inside s states l (c / parts s) k)
