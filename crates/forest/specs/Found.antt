@@ -40,7 +40,7 @@ tally-any (suc n) f h = pick (f n) refl h (tally-any n f)
         (k, omega arith, g)
 
 -- a level that is found lies at the target or above, and its list has members
-deepest-some : (lists : List ℕ) (k l : ℕ) → deepest lists k ≡ At l → (l ≤ k) × (0 < getD lists l 0)
+pub deepest-some : (lists : List ℕ) (k l : ℕ) → deepest lists k ≡ At l → (l ≤ k) × (0 < getD lists l 0)
 unfolding deepest
 deepest-some lists zero l e = pick (ltb 0 (getD lists 0 0)) refl e
   where
