@@ -11,8 +11,42 @@ use verdict::Verdict;
 ghost use mathlib.Core.Path.{_≡_};
 ghost use Rattle.rules.specs.Tables.{state};
 ghost use Rattle.rules.specs.Steps.{outcome};
-ghost use Rattle.rules.specs.Calls.{ask, goOn, give, switch, tick};
+ghost use Rattle.rules.specs.Calls.{build, ask, goOn, give, switch, tick};
 ghost use Rattle.rules.specs.Questions.{whole, cover, mapOutcome, mapPool};
+
+// Build: the lent tables become those of a fresh pool, and the record's clock and runner with them.
+pub fn build(
+    d: Device,
+    s: Shape,
+    states: &mut [u8],
+    owners: &mut [u8],
+    lists: &mut [u16],
+    calls: &mut [u64],
+    queue: &mut [u8],
+) -> Ran
+    ensures { λ r. ⌜ outcome (r .answer) (state (now (states .exit)) (now (owners .exit)) (now (lists .exit)) (now (calls .exit)) (now (queue .exit)) (r .device)) ≡ build s (state (now (states .entry)) (now (owners .entry)) (now (lists .entry)) (now (calls .entry)) (now (queue .entry)) d) ⌝ }
+{
+    if !s.allowed() {
+        return Ran {
+            answer: Answer::Refused(Refusal::ShapeNotAllowed),
+            device: d,
+        };
+    }
+    if !verdict::lengths(s, states, owners, lists, calls, queue) {
+        return Ran {
+            answer: Answer::Refused(Refusal::WrongLength),
+            device: d,
+        };
+    }
+    fresh::make_fresh(s, states, owners, lists, calls, queue);
+    Ran {
+        answer: Answer::Built,
+        device: Device {
+            clock: 0,
+            running: 0,
+        },
+    }
+}
 
 // Ask: thread t asks for a block of at least this size, and says how long it would wait.
 pub fn ask(
