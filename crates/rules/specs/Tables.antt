@@ -10,7 +10,9 @@ use lib.Dec.{eqb}
 use Rattle.laws.specs.Lists.{pad, upFrom}
 use Rattle.shape.specs.declared.Shape.{Shape}
 use Rattle.shape.specs.Blocks.{count, above, place, blocks}
+use Rattle.shape.specs.Limits.{allowed}
 use Rattle.rules.specs.declared.Device.{Device}
+use Rattle.rules.specs.declared.lengths.Lengths.{Lengths}
 use Rattle.rules.specs.declared.Call.{Call}
 use Rattle.rules.specs.Numbers.{FREE, NOEXIST, CELLS}
 
@@ -35,6 +37,19 @@ lengths s T =
     && eqb (length (T .lists)) (s .levels + blocks s)
     && eqb (length (T .calls)) (CELLS * s .threads)
     && eqb (length (T .queue)) (s .threads + 1)
+
+-- the same lengths as a list for whoever lends the tables; none where the shape is not allowed
+unfoldable pub tableLengths : Shape → Lengths
+tableLengths s =
+    cond (allowed s)
+    (record {
+      states = blocks s;
+      owners = blocks s;
+      lists = s .levels + blocks s;
+      calls = CELLS * s .threads;
+      queue = s .threads + 1;
+    })
+    (record { states = 0; owners = 0; lists = 0; calls = 0; queue = 0 })
 
 -- the state of block b of level l
 abbrev pub stateAt : Shape → List ℕ → ℕ → ℕ → ℕ

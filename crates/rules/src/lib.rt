@@ -1,4 +1,7 @@
 // The words of document 01 as types: the record of clock and running thread, a thread's call, the answers.
+pub mod answers;
+pub mod lengths;
+
 ghost use mathlib.Core.Path.{_≡_};
 ghost use Rattle.rules.specs.Steps.{closed, holding, moved};
 
