@@ -1,1 +1,6 @@
 pub mod Lines
+pub mod Changes
+pub mod CallLines
+pub mod OneCall
+pub mod Queue
+pub mod Runs
