@@ -4,3 +4,4 @@ pub mod CallLines
 pub mod OneCall
 pub mod Queue
 pub mod Runs
+pub mod Looks

@@ -83,15 +83,15 @@ module _ (s : Shape) (T : State) (t : ℕ) (c : Call) (g : Runs s T t c) where
       at u l (yes q) = rw (q, put-mine s (T .calls) t d (g .facts .long .calls) (g .thread)) e
       at u l (no q) = k u q ∙ was .each u l ∙ rw (callOf-putCall-other (T .calls) t u d q)
 
+  -- nor is it in the queue
+  pub not-queued : times t (queueOf (T .queue)) ≡ 0
+  not-queued =
+      named s (T .calls) (T .queue) (g .facts .lines .waitersQueued) .each t (g .thread) ∙ rw (g .own, ne-eqb _ _ ready)
+
   pub waiters-after : (d : Call) → (d .stage ≡ WAITING → ⊥) → waitersQueued s (putCall (T .calls) t d) (T .queue) ≡ true
   waiters-after d n =
       waiters-of s (putCall (T .calls) t d) (T .queue)
-      (named-after d (queueOf (T .queue)) mine (λ u q. refl))
-    where
-      mine : times t (queueOf (T .queue)) ≡ bit (eqb (d .stage) WAITING)
-      mine =
-          named s (T .calls) (T .queue) (g .facts .lines .waitersQueued) .each t (g .thread)
-          ∙ rw (g .own, ne-eqb _ _ ready, ne-eqb _ _ n)
+      (named-after d (queueOf (T .queue)) (not-queued ∙ rw (ne-eqb _ _ n)) (λ u q. refl))
 
   pub running-after : (d : Call) → (d .stage ≡ WAITING → ⊥) → runningReady s (putCall (T .calls) t d) (T .device) ≡ true
   running-after d n =
