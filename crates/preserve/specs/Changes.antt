@@ -8,7 +8,8 @@ use Prim.Native.Nat.{ℕ, zero, suc, _+_, _*_, _/_, _≤_, _<_}
 use native.Mathlib.Nat.{zero-add, add-zero, le-of-suc-le-suc, eq-or-lt-of-le, not-suc-le-zero, lt-suc-self, lt-trans, mul-add-div, div-eq-of-lt}
 use native.Mathlib.Decide.{decLt, ℕ-discrete}
 use native.Mathlib.Omega.{arith}
-use lib.ListN.{length, getD}
+use lib.ListN.{length, getD, set}
+use lib.Seq.{sets, set-out, getD-set-same, getD-set-other}
 use lib.Dec.{leb, ltb, eqb}
 use borrow.Author.Tests.{lt-ltb, le-ltb, ltb-true, le-leb, lt-leb, eq-eqb, ne-eqb, eqb-true}
 use Rattle.laws.specs.Tests.{bit, bit-most, every, every-at, every-of, tally, tally-same}
@@ -120,3 +121,48 @@ times-keep f x (y ∷ ys) = go (f x) (f y) refl refl (times-keep f x ys) (ℕ-di
 -- part j of block b is a part of block b
 pub part-of : (p b j : ℕ) → j < p → (p * b + j) / p ≡ b
 part-of p b j h = mul-add-div (omega arith) b j ∙ ap (λ (n : ℕ). b + n) (div-eq-of-lt h) ∙ add-zero b
+
+-- a store that a test doesn't tell from what stood there
+pub set-test :
+    (τ : ℕ → Bool) (xs : List ℕ) (k v : ℕ) → τ v ≡ τ (getD xs k 0) → (i : ℕ) → τ (getD (set xs k v) i 0) ≡ τ (getD xs i 0)
+set-test τ xs k v e i = go (ℕ-discrete i k) (decLt k (length xs))
+  where
+    go : Dec (i ≡ k) → Dec (k < length xs) → τ (getD (set xs k v) i 0) ≡ τ (getD xs i 0)
+    go (yes q) (yes h) = rw (q, getD-set-same xs k v 0 h) e
+    go (yes q) (no h) = rw (set-out xs k v (omega arith))
+    go (no q) h = rw (getD-set-other xs k i v 0 q)
+
+-- nor a run of them
+pub sets-test :
+    (τ : ℕ → Bool) (xs vs : List ℕ) (k : ℕ) → ((j : ℕ) → j < length vs → τ (getD vs j 0) ≡ τ (getD xs (k + j) 0)) →
+    (i : ℕ) → τ (getD (sets xs k vs) i 0) ≡ τ (getD xs i 0)
+sets-test τ xs [] k e i = refl
+sets-test τ xs (v ∷ vs) k e i =
+    sets-test τ (set xs k v) vs (suc k) behind i ∙ set-test τ xs k v (rw add-zero at (e 0 (omega arith))) i
+  where
+    behind : (j : ℕ) → j < length vs → τ (getD vs j 0) ≡ τ (getD (set xs k v) (suc k + j) 0)
+    behind j l =
+        let q : suc k + j ≡ k + suc j = omega arith in
+        rw (q, getD-set-other xs k (k + suc j) v 0 (omega arith)) (e (suc j) (omega arith))
+
+-- a store changes a test where it stands and nowhere else
+pub set-count :
+    (τ : ℕ → Bool) (xs : List ℕ) (k v x : ℕ) → k < length xs → getD xs k 0 ≡ x → (i : ℕ) →
+    bit (τ (getD (set xs k v) i 0)) + bit (τ x && eqb i k) ≡ bit (τ (getD xs i 0)) + bit (τ v && eqb i k)
+set-count τ xs k v x h e i = go (ℕ-discrete i k)
+  where
+    same : (a b : Bool) → bit a + bit (b && true) ≡ bit b + bit (a && true)
+    same true true = refl
+    same true false = refl
+    same false true = refl
+    same false false = refl
+
+    none : (a b : Bool) → bit (a && false) ≡ bit (b && false)
+    none true true = refl
+    none true false = refl
+    none false true = refl
+    none false false = refl
+
+    go : Dec (i ≡ k) → bit (τ (getD (set xs k v) i 0)) + bit (τ x && eqb i k) ≡ bit (τ (getD xs i 0)) + bit (τ v && eqb i k)
+    go (yes q) = rw (q, getD-set-same xs k v 0 h, e, eq-eqb k k refl) (same (τ v) (τ x))
+    go (no q) = rw (getD-set-other xs k i v 0 q, ne-eqb i k q) (ap (λ (n : ℕ). bit (τ (getD xs i 0)) + n) (none (τ x) (τ v)))

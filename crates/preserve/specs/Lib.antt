@@ -5,3 +5,4 @@ pub mod OneCall
 pub mod Queue
 pub mod Runs
 pub mod Looks
+pub mod States
