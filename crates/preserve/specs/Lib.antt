@@ -6,3 +6,4 @@ pub mod Queue
 pub mod Runs
 pub mod Looks
 pub mod States
+pub mod FreeLists
