@@ -7,3 +7,4 @@ pub mod Runs
 pub mod Looks
 pub mod States
 pub mod FreeLists
+pub mod OneState
