@@ -1,7 +1,7 @@
 -- What changes: how many pass where one test changes, how often a number stands in a list that grows or shrinks, and who stands in a list at all.
 -- Assumes nothing.
 use mathlib.Core.Path.{_≡_, refl, sym, _∙_, ap, ap₂}
-use mathlib.Core.Bool.{Bool, true, false, cond, _&&_, Bool·beq, false≢true}
+use mathlib.Core.Bool.{Bool, true, false, not, cond, _&&_, _||_, Bool·beq, false≢true}
 use mathlib.Core.Logic.{_⊎_, inl, inr, _≢_}
 use mathlib.Core.List.{List, [], _∷_}
 use Prim.Native.Nat.{ℕ, zero, suc, _+_, _*_, _/_, _≤_, _<_}
@@ -44,6 +44,11 @@ every-less n f g h e = go (every n g) refl
 pub beq-of : (x y : Bool) → x ≡ y → Bool·beq x y ≡ true
 beq-of true y e = rw (← e)
 beq-of false y e = rw (← e)
+
+-- a disjunction whose first side is the negation of what holds
+pub implied : (x y : Bool) → (not x || y) ≡ true → x ≡ true → y ≡ true
+implied true y e h = e
+implied false y e h = absurd (false≢true h)
 
 pub times-cons : (x y : ℕ) (ys : List ℕ) → times x (y ∷ ys) ≡ bit (eqb x y) + times x ys
 unfolding times

@@ -8,3 +8,5 @@ pub mod Looks
 pub mod States
 pub mod FreeLists
 pub mod OneState
+pub mod Turns
+pub mod Takes

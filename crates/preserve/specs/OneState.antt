@@ -38,6 +38,14 @@ place-eqb s l b m a h k = go (ℕ-discrete m l) (ℕ-discrete a b)
     go (no p) q =
         rw (ne-eqb m l p) (sym (ne-eqb (place s l b) (place s m a) (λ e. p (sym (place-once s l b m a h k e .0)))))
 
+-- blocks of one level by their numbers
+pub level-eqb : (s : Shape) (l a b : ℕ) → eqb (place s l a) (place s l b) ≡ eqb a b
+level-eqb s l a b = go (ℕ-discrete a b)
+  where
+    go : Dec (a ≡ b) → eqb (place s l a) (place s l b) ≡ eqb a b
+    go (yes q) = rw (eq-eqb a b q) (eq-eqb (place s l a) (place s l b) (omega arith))
+    go (no q) = rw (ne-eqb a b q) (ne-eqb (place s l a) (place s l b) (omega arith))
+
 -- the block in hand of a call at this stage, if any, stands at place k
 abbrev pub HandAt : Shape → ℕ → ℕ → Call → Type 0
 HandAt s stage k c =
