@@ -10,3 +10,4 @@ pub mod FreeLists
 pub mod OneState
 pub mod Turns
 pub mod Takes
+pub mod Owns
