@@ -38,19 +38,37 @@ in-time true true z m e f g = both z m e .0
 in-time true false z m e f g = absurd (false≢true g)
 in-time false t z m e f g = absurd (false≢true f)
 
--- what is kept of a call whose stage uses the wait
-pub asks : (s : Shape) (clock : ℕ) (c : Call) → CallFacts s clock c → usesWait c ≡ true → usesBlock c ≡ false → Asks s clock c
-unfolding fieldsUsed sizeKept deadlineKept
-asks s clock c f w n =
-    let f1 = both _ (usesBlock c || eqb (c .block) 0) (f .fields) in
+-- which fields hold zero, line by line
+pub record Fields (c : Call) : Type 0 where
+  pub kind : leb (c .wait) TIMED ≡ true
+  pub deadline : (usesDeadline c || eqb (c .deadline) 0) ≡ true
+  pub level : (usesLevel c || eqb (c .level) 0) ≡ true
+  pub block : (usesBlock c || eqb (c .block) 0) ≡ true
+
+pub fields : (c : Call) → fieldsUsed c ≡ true → Fields c
+unfolding fieldsUsed
+fields c e =
+    let f1 = both _ (usesBlock c || eqb (c .block) 0) e in
     let f2 = both _ (usesLevel c || eqb (c .level) 0) (f1 .0) in
     let f3 = both _ (usesDeadline c || eqb (c .deadline) 0) (f2 .0) in
     let f4 = both _ (usesWait c || eqb (c .wait) 0) (f3 .0) in
     let f5 = both _ (usesSize c || eqb (c .size) 0) (f4 .0) in
     record {
-      kind = leb-true _ _ (both (leb (c .stage) WAITING) (leb (c .wait) TIMED) (f5 .0) .1);
-      untimed = where-used (usesWait c) (eqb (c .wait) TIMED) (eqb (c .deadline) 0) (f3 .1) w;
-      unheld = eqb-true _ _ (unfound (usesBlock c) (eqb (c .block) 0) (f1 .1) n);
+      kind = both (leb (c .stage) WAITING) (leb (c .wait) TIMED) (f5 .0) .1;
+      deadline = f3 .1;
+      level = f2 .1;
+      block = f1 .1;
+    }
+
+-- what is kept of a call whose stage uses the wait
+pub asks : (s : Shape) (clock : ℕ) (c : Call) → CallFacts s clock c → usesWait c ≡ true → usesBlock c ≡ false → Asks s clock c
+unfolding sizeKept deadlineKept
+asks s clock c f w n =
+    record {
+      kind = leb-true _ _ (fields c (f .fields) .kind);
+      untimed =
+          where-used (usesWait c) (eqb (c .wait) TIMED) (eqb (c .deadline) 0) (fields c (f .fields) .deadline) w;
+      unheld = eqb-true _ _ (unfound (usesBlock c) (eqb (c .block) 0) (fields c (f .fields) .block) n);
       size = leb-true _ _ (f .size);
       soon = λ q. leb-true _ _ (in-time (usesWait c) (eqb (c .wait) TIMED) _ _ (f .deadline) w (eq-eqb _ _ q));
     }

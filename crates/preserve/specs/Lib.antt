@@ -11,3 +11,5 @@ pub mod OneState
 pub mod Turns
 pub mod Takes
 pub mod Owns
+pub mod Woken
+pub mod Wakes
