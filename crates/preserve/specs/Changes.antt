@@ -123,6 +123,16 @@ times-keep f x (y ∷ ys) = go (f x) (f y) refl refl (times-keep f x ys) (ℕ-di
     go false true p q e (yes d) = absurd (false≢true (sym p ∙ ap f d ∙ q))
     go false true p q e (no d) = ap₂ _+_ (ap bit (ne-eqb x y d)) (rw p at e)
 
+pub keep-every : (xs : List ℕ) → keep (λ _. true) xs ≡ xs
+unfolding keep
+keep-every [] = refl
+keep-every (x ∷ xs) = ap (λ (ys : List ℕ). x ∷ ys) (keep-every xs)
+
+pub keep-nothing : (xs : List ℕ) → keep (λ _. false) xs ≡ []
+unfolding keep
+keep-nothing [] = refl
+keep-nothing (x ∷ xs) = keep-nothing xs
+
 -- part j of block b is a part of block b
 pub part-of : (p b j : ℕ) → j < p → (p * b + j) / p ≡ b
 part-of p b j h = mul-add-div (omega arith) b j ∙ ap (λ (n : ℕ). b + n) (div-eq-of-lt h) ∙ add-zero b

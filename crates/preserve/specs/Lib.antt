@@ -13,3 +13,4 @@ pub mod Takes
 pub mod Owns
 pub mod Woken
 pub mod Wakes
+pub mod Settles
