@@ -14,3 +14,4 @@ pub mod Owns
 pub mod Woken
 pub mod Wakes
 pub mod Settles
+pub mod Asks
