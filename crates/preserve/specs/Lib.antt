@@ -15,3 +15,5 @@ pub mod Woken
 pub mod Wakes
 pub mod Settles
 pub mod Asks
+pub mod Family
+pub mod FamilyLines
