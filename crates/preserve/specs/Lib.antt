@@ -17,3 +17,4 @@ pub mod Settles
 pub mod Asks
 pub mod Family
 pub mod FamilyLines
+pub mod FamilyKept
