@@ -25,7 +25,7 @@ use Rattle.preserve.specs.Family.{Elsewhere, by-family, family, family-o
 module _ (s : Shape) (states : List ℕ) (l b own : ℕ) (vs : List ℕ) (long : length states ≡ blocks s) (level : l + 1 < s .levels)
     (block : b < count s l) (wide : length vs ≡ parts s) where
   -- a test tells no block but this one, or none but its parts, from what it was
-  but-own :
+  pub but-own :
       (τ : ℕ → Bool) → ((j : ℕ) → j < parts s → τ (getD vs j 0) ≡ τ (stateAt s states (l + 1) (parts s * b + j))) →
       (m a : ℕ) → a < count s m → (m ≡ l → a ≡ b → ⊥) →
       τ (stateAt s (family s states l b own vs) m a) ≡ τ (stateAt s states m a)
@@ -37,7 +37,7 @@ module _ (s : Shape) (states : List ℕ) (l b own : ℕ) (vs : List ℕ) (long :
       (λ j i h n. ap τ (family-part s states l b own vs long level block wide j i) ∙ f j i)
       (λ m a d h n. ap τ (family-rest s states l b own vs long level block wide m a h d))
 
-  but-parts :
+  pub but-parts :
       (τ : ℕ → Bool) → τ own ≡ τ (stateAt s states l b) → (m a : ℕ) → a < count s m → (m ≡ l + 1 → a / parts s ≡ b → ⊥) →
       τ (stateAt s (family s states l b own vs) m a) ≡ τ (stateAt s states m a)
   but-parts τ e =

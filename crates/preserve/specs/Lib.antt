@@ -18,3 +18,5 @@ pub mod Asks
 pub mod Family
 pub mod FamilyLines
 pub mod FamilyKept
+pub mod FamilyLists
+pub mod Splits
