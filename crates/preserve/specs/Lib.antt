@@ -20,3 +20,4 @@ pub mod FamilyLines
 pub mod FamilyKept
 pub mod FamilyLists
 pub mod Splits
+pub mod Merges
