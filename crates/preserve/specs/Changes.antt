@@ -8,7 +8,7 @@ use Prim.Native.Nat.{ℕ, zero, suc, _+_, _*_, _/_, _≤_, _<_}
 use native.Mathlib.Nat.{zero-add, add-zero, le-of-suc-le-suc, eq-or-lt-of-le, not-suc-le-zero, lt-suc-self, lt-trans, mul-add-div, div-eq-of-lt}
 use native.Mathlib.Decide.{decLt, ℕ-discrete}
 use native.Mathlib.Omega.{arith}
-use lib.ListN.{length, getD, set}
+use lib.ListN.{length, getD, set, replicate, length-replicate, getD-replicate, List·getD-eq-default}
 use lib.Seq.{sets, set-out, getD-set-same, getD-set-other}
 use lib.Dec.{leb, ltb, eqb}
 use borrow.Author.Tests.{lt-ltb, le-ltb, ltb-true, le-leb, lt-leb, eq-eqb, ne-eqb, eqb-true}
@@ -31,6 +31,12 @@ tally-one (suc n) t f g h e =
     go below (inl q) d m = rw q (omega (arith, tally-same n f g (λ k l. d k l (omega arith))))
     go below (inr l) d m = omega (arith, below l d, ap bit (m (omega arith)))
 
+-- a test that fails at every number passes nowhere
+pub tally-fails : (n : ℕ) (f : ℕ → Bool) → ((k : ℕ) → k < n → f k ≡ false) → tally n f ≡ 0
+unfolding tally
+tally-fails zero f h = refl
+tally-fails (suc n) f h = ap₂ _+_ (tally-fails n f (λ k l. h k (lt-trans l (lt-suc-self n)))) (ap bit (h n (lt-suc-self n)))
+
 -- where a test that fails somewhere is passed whenever another is, that one fails too
 pub every-less :
     (n : ℕ) (f g : ℕ → Bool) → ((k : ℕ) → k < n → g k ≡ true → f k ≡ true) → every n f ≡ false → every n g ≡ false
@@ -49,6 +55,14 @@ beq-of false y e = rw (← e)
 pub implied : (x y : Bool) → (not x || y) ≡ true → x ≡ true → y ≡ true
 implied true y e h = e
 implied false y e h = absurd (false≢true h)
+
+-- zeros alone
+pub getD-zeros : (n k : ℕ) → _≡_ {A = ℕ} (getD (replicate n 0) k 0) 0
+getD-zeros n k = go (decLt k n)
+  where
+    go : Dec (k < n) → _≡_ {A = ℕ} (getD (replicate n 0) k 0) 0
+    go (yes h) = getD-replicate n k 0 0 h
+    go (no h) = List·getD-eq-default (replicate n 0) 0 {n = k} (omega (arith, length-replicate {A = ℕ} n 0))
 
 pub times-cons : (x y : ℕ) (ys : List ℕ) → times x (y ∷ ys) ≡ bit (eqb x y) + times x ys
 unfolding times

@@ -21,3 +21,4 @@ pub mod FamilyKept
 pub mod FamilyLists
 pub mod Splits
 pub mod Merges
+pub mod Fresh
