@@ -22,3 +22,4 @@ pub mod FamilyLists
 pub mod Splits
 pub mod Merges
 pub mod Fresh
+pub mod Histories
