@@ -52,6 +52,20 @@ fn example(
     }
 }
 
+// The size of an ask on either side of the top size.
+fn size_at(k: usize) -> usize {
+    if k == 2 { 1025 } else { 1024 }
+}
+
+// The wait of an ask on either side of the limits.
+fn wait_at(k: usize) -> Millis {
+    match k {
+        3 => Millis(600001),
+        4 => Millis(-2),
+        _ => Millis(600000),
+    }
+}
+
 // A step on either side of the lines: a size above the top size, waits outside their limits, and the longest wait.
 fn limits(
     k: usize,
@@ -63,58 +77,24 @@ fn limits(
     calls: &mut [u64],
     queue: &mut [u8],
 ) -> Device {
-    match k {
-        0 => return show(pool::build(d, s, states, owners, lists, calls, queue)),
-        1 => return show(pool::switch(d, s, states, owners, lists, calls, queue, 0)),
-        2 => say(pool::ask(
-            d,
-            s,
-            states,
-            owners,
-            lists,
-            calls,
-            queue,
-            0,
-            1025,
-            Millis(0),
-        )),
-        3 => say(pool::ask(
-            d,
-            s,
-            states,
-            owners,
-            lists,
-            calls,
-            queue,
-            0,
-            1024,
-            Millis(600001),
-        )),
-        4 => say(pool::ask(
-            d,
-            s,
-            states,
-            owners,
-            lists,
-            calls,
-            queue,
-            0,
-            1024,
-            Millis(-2),
-        )),
-        _ => say(pool::ask(
-            d,
-            s,
-            states,
-            owners,
-            lists,
-            calls,
-            queue,
-            0,
-            1024,
-            Millis(600000),
-        )),
+    if k == 0 {
+        return show(pool::build(d, s, states, owners, lists, calls, queue));
     }
+    if k == 1 {
+        return show(pool::switch(d, s, states, owners, lists, calls, queue, 0));
+    }
+    say(pool::ask(
+        d,
+        s,
+        states,
+        owners,
+        lists,
+        calls,
+        queue,
+        0,
+        size_at(k),
+        wait_at(k),
+    ));
     d
 }
 
