@@ -21,7 +21,8 @@ use Rattle.rules.specs.Numbers.{FREE}
 use Rattle.rules.specs.Tables.{State, lengths, stateAt, freeList}
 use Rattle.rules.specs.Valid.{freeListed, valid}
 use Rattle.rules.specs.Facts.{ValidFacts, valid-facts}
-use Rattle.rules.specs.Room.{length-facts, length-freeList, list-short}
+use Rattle.rules.specs.ListLaws.{length-freeList}
+use Rattle.rules.specs.Room.{length-facts, list-short}
 use Rattle.rules.specs.Steps.{deepest}
 use Rattle.forest.specs.Bytes.{FreeBlock}
 

@@ -3,9 +3,9 @@ pub mod Answers
 pub mod Tables
 pub mod Valid
 pub mod Facts
+pub mod ListLaws
 pub mod Room
 pub mod Steps
 pub mod Calls
 pub mod Questions
 pub mod Moves
-pub mod ListLaws

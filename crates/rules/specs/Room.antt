@@ -23,6 +23,7 @@ use Rattle.rules.specs.Numbers.{FREE, DIVIDED, NOEXIST, FREEING, ALLOCAT
 use Rattle.rules.specs.Tables.{State, lengths, stateAt, section, freeList, queueOf, callOf}
 use Rattle.rules.specs.Valid.{usesBlock, fieldsUsed, handInside, inHand, oneToOne, targetKept, sizeKept, foundKept, deadlineKept, mayWait, callKept, callsKept, partsExist, listEnds, freeListed, queueEnds, waitersQueued, valid}
 use Rattle.rules.specs.Facts.{ValidFacts, valid-facts}
+use Rattle.rules.specs.ListLaws.{length-freeList}
 
 -- the lengths of the tables
 pub record LengthFacts (s : Shape) (T : State) : Type 0 where
@@ -142,15 +143,6 @@ parts-none s states e l b j h k i n =
     agree true b q w = refl
     agree false true q w = absurd (true≢false w)
     agree false false q w = absurd (false≢true q)
-
--- a list that is as long as its level at most has as many members as its length says
-pub length-freeList :
-    (s : Shape) (lists : List ℕ) (l : ℕ) → length lists ≡ s .levels + blocks s → l < s .levels →
-    getD lists l 0 ≤ count s l → length (freeList s lists l) ≡ getD lists l 0
-unfolding freeList blocks
-length-freeList s lists l h k n =
-    length-take-le (getD lists l 0) (drop (section s l) lists)
-    (simp length-drop (omega (arith, above-next s l, above-up s (l + 1) (s .levels) (omega arith))))
 
 -- each level's list is short enough
 pub list-short :
