@@ -4,3 +4,4 @@ pub mod Sums
 pub mod Times
 pub mod Keep
 pub mod Rows
+pub mod Changes

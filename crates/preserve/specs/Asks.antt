@@ -1,7 +1,7 @@
 -- Ask, switch and tick: the tables stay kept.
 -- Assumes nothing.
 use mathlib.Core.Path.{_≡_, refl, sym, _∙_, ap}
-use mathlib.Core.Bool.{Bool, true, false, not, _&&_, _||_, false≢true}
+use mathlib.Core.Bool.{true, false, not, false≢true}
 use mathlib.Core.List.{List}
 use Prim.Native.Nat.{ℕ, _+_, _≤_, _<_}
 use native.Mathlib.Omega.{arith}
@@ -14,14 +14,15 @@ use Rattle.shape.specs.declared.time.Wait.the-variants.{Never, Forever, Timed, 
 use Rattle.shape.specs.Time.{ticks, longest, ticksOf}
 use Rattle.rules.specs.declared.Call.{Call}
 use Rattle.rules.specs.declared.Refusal.the-variants.{NoThread, IsBlocked, CallOpen, SizeAboveTop, WaitOutside, ClockAtEnd}
-use Rattle.rules.specs.Numbers.{CLOSED, DIVIDING, RELEASING, WAITING, TIMED, CLOCK-END}
+use Rattle.rules.specs.Numbers.{CLOSED, WAITING, TIMED, CLOCK-END}
 use Rattle.rules.specs.Tables.{State, callOf}
 use Rattle.rules.specs.Valid.{usesDeadline, usesBlock, fieldsUsed, handInside, targetKept, sizeKept, foundKept, deadlineKept, mayWait, callKept}
 use Rattle.rules.specs.Calls.{askedCall, isOutside, askStep, onlyDevice, switchStep, due, tickStep}
-use Rattle.rules.specs.Room.{CallFacts, call-facts}
+use Rattle.rules.specs.Room.{call-facts}
 use Rattle.theorems.specs.Refusals.{past}
 use Rattle.preserve.specs.Lines.{Facts}
-use Rattle.preserve.specs.Changes.{implied}
+use Rattle.preserve.specs.CallLines.{uses-block}
+use Rattle.laws.specs.Changes.{implied}
 use Rattle.preserve.specs.OneCall.{running-of}
 use Rattle.preserve.specs.Runs.{Runs, only-call}
 use Rattle.preserve.specs.Wakes.{wakes-kept}
@@ -51,21 +52,18 @@ new-ready clock size (Timed n) e = omega arith
 new-ready clock size Outside e = omega arith
 
 pub ask-kept :
-    (s : Shape) (T : State) (t : ℕ) (c : Call) → Runs s T t c → (size : ℕ) (w : Wait) → ticksOf w ≤ ticks longest →
+    {s : Shape} {T : State} {t : ℕ} {c : Call} → Runs s T t c → (size : ℕ) (w : Wait) → ticksOf w ≤ ticks longest →
     Facts s (askStep s T t size w .after)
 unfolding askStep
-ask-kept s T t c g size w k =
+ask-kept {s} {T} {t} {c} g size w k =
     past (Facts s) (not (eqb (callOf (T .calls) t .stage) CLOSED)) CallOpen T _ (g .facts) (λ o.
     past (Facts s) (ltb (s .«top_size») size) SizeAboveTop T _ (g .facts) (λ b.
     past (Facts s) (isOutside w) WaitOutside T _ (g .facts) (λ p.
-    only-call s T t c g (askedCall (T .device .clock) size w)
-    (idle (ap (λ (d : Call). d .stage) (sym (g .own)) ∙ eqb-true _ _ (not-false _ o)))
+    only-call g (askedCall (T .device .clock) size w)
+    (uses-block c CLOSED (ap (λ (d : Call). d .stage) (sym (g .own)) ∙ eqb-true _ _ (not-false _ o)))
     (new-idle (T .device .clock) size w)
     (new-ready (T .device .clock) size w)
     (new-kept s (T .device .clock) size w (ltb-false _ _ b) k))))
-  where
-    idle : c .stage ≡ CLOSED → usesBlock c ≡ false
-    idle e = ap (λ (n : ℕ). eqb n DIVIDING || eqb n RELEASING) e
 
 -- another thread runs, one that isn't blocked
 pub switch-kept : (s : Shape) (T : State) (t : ℕ) → Facts s T → Facts s (switchStep s T t .after)
@@ -78,31 +76,17 @@ switch-kept s T t f =
     switched : t < s .threads → (callOf (T .calls) t .stage ≡ WAITING → ⊥) → Facts s (onlyDevice T (T .device .clock) (t + 1))
     switched h w =
         record {
-          long =
+          pool = f .pool;
+          threads =
               record {
-                states = f .long .states;
-                owners = f .long .owners;
-                lists = f .long .lists;
-                calls = f .long .calls;
-                queue = f .long .queue;
-              };
-          lines =
-              record {
-                statesKnown = f .lines .statesKnown;
-                ownersKnown = f .lines .ownersKnown;
-                topsExist = f .lines .topsExist;
-                partsExist = f .lines .partsExist;
-                deepestWhole = f .lines .deepestWhole;
-                buddiesMerged = f .lines .buddiesMerged;
-                listEnds = f .lines .listEnds;
-                freeListed = f .lines .freeListed;
-                callsKept = f .lines .callsKept;
-                allocating = f .lines .allocating;
-                freeing = f .lines .freeing;
-                queueEnds = f .lines .queueEnds;
-                waitersQueued = f .lines .waitersQueued;
-                runningReady =
-                    running-of s (T .calls) (record { clock = T .device .clock; running = t + 1 }) t refl h w;
+                long = f .threads .long;
+                queueLong = f .threads .queueLong;
+                kept = f .threads .kept;
+                allocating = f .threads .allocating;
+                freeing = f .threads .freeing;
+                ends = f .threads .ends;
+                waiters = f .threads .waiters;
+                running = running-of s (T .calls) (record { clock = T .device .clock; running = t + 1 }) t refl h w;
               };
         }
 
@@ -112,13 +96,16 @@ deadline-above :
 unfolding deadlineKept
 deadline-above clock c k w d =
     ltb-true _ _
-    (implied (eqb (c .stage) WAITING) _ (both (leb (c .deadline) (clock + ticks longest)) _ (implied (usesDeadline c) _ k timed) .1)
+    (implied (eqb (c .stage) WAITING) _
+    (both (leb (c .deadline) (clock + ticks longest)) _ (implied (usesDeadline c) _ k timed) .1)
     (eq-eqb _ _ w))
   where
     timed : usesDeadline c ≡ true
     timed = rw (w, d)
 
-not-due : (calls : List ℕ) (clock t : ℕ) → callOf calls t .wait ≡ TIMED → due calls clock t ≡ false → callOf calls t .deadline ≡ clock → ⊥
+not-due :
+    (calls : List ℕ) (clock t : ℕ) → callOf calls t .wait ≡ TIMED → due calls clock t ≡ false →
+    callOf calls t .deadline ≡ clock → ⊥
 unfolding due
 not-due calls clock t d n q = false≢true (sym n ∙ both-of _ _ (eq-eqb _ _ d) (eq-eqb _ _ q))
 
@@ -127,12 +114,16 @@ pub tick-kept : (s : Shape) (T : State) → Facts s T → Facts s (tickStep s T 
 unfolding tickStep
 tick-kept s T f =
     past (Facts s) (eqb (T .device .clock) CLOCK-END) ClockAtEnd T _ f (λ e.
-    wakes-kept s T f (due (T .calls) (T .device .clock + 1)) (T .device .clock + 1) (omega arith) above)
+    wakes-kept f (due (T .calls) (T .device .clock + 1)) (T .device .clock + 1) (omega arith) above)
   where
     soonest :
         (t : ℕ) → t < s .threads → callOf (T .calls) t .stage ≡ WAITING → callOf (T .calls) t .wait ≡ TIMED →
         T .device .clock < callOf (T .calls) t .deadline
-    soonest t h w d = deadline-above (T .device .clock) (callOf (T .calls) t) (call-facts s (T .device .clock) (T .calls) (f .lines .callsKept) t h .deadline) w d
+    soonest t h w d =
+        deadline-above (T .device .clock) (callOf (T .calls) t)
+        (call-facts s (T .device .clock) (T .calls) (f .threads .kept) t h .deadline)
+        w
+        d
 
     above :
         (t : ℕ) → t < s .threads → callOf (T .calls) t .stage ≡ WAITING → callOf (T .calls) t .wait ≡ TIMED →

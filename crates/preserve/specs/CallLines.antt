@@ -15,7 +15,22 @@ use Rattle.rules.specs.Numbers.{ASKED, FOUND, DIVIDING, RELEASING, WAITING, NEV
 use Rattle.rules.specs.Valid.{usesWait, usesSize, usesDeadline, usesLevel, usesBlock, fieldsUsed, handInside, targetKept, sizeKept, foundKept, deadlineKept, mayWait, callKept}
 use Rattle.rules.specs.Steps.{closed, holding, moved}
 use Rattle.rules.specs.Room.{CallFacts}
-use Rattle.preserve.specs.Lines.{call-kept-of}
+
+pub call-kept-of : (s : Shape) (clock : ℕ) (c : Call) → CallFacts s clock c → callKept s clock c ≡ true
+unfolding callKept
+call-kept-of s clock c f =
+    both-of _ _
+    (both-of _ _
+    (both-of _ _ (both-of _ _ (both-of _ _ (both-of _ _ (f .fields) (f .hand)) (f .target)) (f .size)) (f .found))
+    (f .deadline))
+    (f .waits)
+
+-- a stage tells whether it uses a block, and whether the wait
+pub uses-block : (c : Call) (n : ℕ) → c .stage ≡ n → usesBlock c ≡ (eqb n DIVIDING || eqb n RELEASING)
+uses-block c n e = ap (λ (k : ℕ). eqb k DIVIDING || eqb k RELEASING) e
+
+pub uses-wait : (c : Call) (n : ℕ) → c .stage ≡ n → usesWait c ≡ (eqb n ASKED || eqb n WAITING || eqb n FOUND)
+uses-wait c n e = ap (λ (k : ℕ). eqb k ASKED || eqb k WAITING || eqb k FOUND) e
 
 -- a call that asks: its kind of wait, its deadline and its size
 pub record Asks (s : Shape) (clock : ℕ) (c : Call) : Type 0 where
@@ -109,7 +124,14 @@ module _ (s : Shape) (clock : ℕ) (c : Call) (a : Asks s clock c) where
   pub found-kept : (l : ℕ) → l ≤ levelFor s (c .size) → callKept s clock (moved c FOUND l) ≡ true
   unfolding callKept fieldsUsed handInside targetKept sizeKept foundKept deadlineKept mayWait
   found-kept l h =
-      rw (le-leb _ _ (a .kind), a .untimed, eq-eqb _ _ (a .unheld), le-leb _ _ (a .size), le-leb _ _ h, soon-enough true (λ _. refl))
+      rw (
+        le-leb _ _ (a .kind),
+        a .untimed,
+        eq-eqb _ _ (a .unheld),
+        le-leb _ _ (a .size),
+        le-leb _ _ h,
+        soon-enough true (λ _. refl),
+      )
 
   pub waiting-kept :
       (c .wait ≡ NEVER → ⊥) → (c .wait ≡ TIMED → clock < c .deadline) → callKept s clock (moved c WAITING 0) ≡ true

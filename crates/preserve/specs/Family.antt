@@ -1,28 +1,22 @@
 -- A block and its parts change state, and no other block: what the lines on states say afterwards.
 -- Assumes nothing.
-use mathlib.Core.Path.{_≡_, refl, sym, _∙_, ap, ap₂, subst}
-use mathlib.Core.Bool.{Bool, true, false, not, _&&_, _||_, Bool·beq, false≢true}
+use mathlib.Core.Path.{_≡_, sym, _∙_, ap, subst}
+use mathlib.Core.Bool.{Bool}
 use mathlib.Core.List.{List}
-use Prim.Native.Nat.{ℕ, _+_, _*_, _-_, _/_, _%_, _≤_, _<_}
+use Prim.Native.Nat.{ℕ, _+_, _*_, _/_, _%_, _<_}
 use native.Mathlib.Nat.{div-add-mod, mod-lt}
 use native.Mathlib.Decide.{ℕ-discrete}
 use native.Mathlib.Omega.{arith}
 use lib.ListN.{length, getD, set, length-set}
 use lib.Seq.{sets, length-sets, getD-set-same, getD-set-other}
-use lib.Dec.{eqb}
-use borrow.Author.Tests.{not-true}
-use Rattle.laws.specs.Tests.{every, every-at, every-of, every-same}
 use Rattle.laws.specs.Keep.{getD-sets, getD-sets-other}
 use Rattle.shape.specs.declared.Shape.{Shape}
 use Rattle.shape.specs.Limits.{parts}
 use Rattle.shape.specs.Blocks.{count, place, blocks}
-use Rattle.shape.specs.Laws.{Limits, parts-pos, place-once, place-inside, count-top}
+use Rattle.shape.specs.Laws.{parts-pos, place-once, place-inside}
 use Rattle.shape.specs.Sections.{levels-apart, part-inside, parts-placed}
-use Rattle.rules.specs.Numbers.{FREE, DIVIDED, NOEXIST}
 use Rattle.rules.specs.Tables.{stateAt}
-use Rattle.rules.specs.Valid.{topsExist, partsExist, deepestWhole, buddiesMerged}
-use Rattle.theorems.specs.Table.{alike}
-use Rattle.preserve.specs.Changes.{every-less, beq-of, part-of, set-test, sets-test}
+use Rattle.laws.specs.Changes.{part-of, set-test, sets-test}
 use Rattle.preserve.specs.States.{Alike}
 
 -- block a of level m is neither block b of level l nor a part of it
@@ -55,45 +49,51 @@ by-family s l b P own part rest m a =
         (subst (λ (n : ℕ). P (l + 1) n) (sym (mine (q .1))) (part (a % parts s) (mod-lt a (parts-pos s))))
     go (no p) (no q) = rest m a (λ u v. p (u, v), λ u v. q (u, v))
 
-module _ (s : Shape) (states : List ℕ) (l b own : ℕ) (vs : List ℕ) (long : length states ≡ blocks s) (level : l + 1 < s .levels)
-    (block : b < count s l) (wide : length vs ≡ parts s) where
+-- block b of level l has parts, and there is a state for each
+pub record Family (s : Shape) (states : List ℕ) (l b : ℕ) (vs : List ℕ) : Type 0 where
+  pub long : length states ≡ blocks s
+  pub level : l + 1 < s .levels
+  pub block : b < count s l
+  pub wide : length vs ≡ parts s
+
+module _ {s : Shape} {states : List ℕ} {l b : ℕ} {vs : List ℕ} (f : Family s states l b vs) (own : ℕ) where
   -- the parts stand behind the block
   behind : (j : ℕ) → place s l b < place s (l + 1) (parts s * b) + j
-  behind j = omega (arith, levels-apart s l (l + 1) (omega arith))
+  behind j = omega (arith, f .block, levels-apart s l (l + 1) (omega arith))
 
   part-place : (j : ℕ) → place s (l + 1) (parts s * b + j) ≡ place s (l + 1) (parts s * b) + j
   part-place j = omega arith
 
   pub family-long : length (family s states l b own vs) ≡ blocks s
-  family-long = length-sets (set states (place s l b) own) (place s (l + 1) (parts s * b)) vs ∙ length-set states (place s l b) own ∙ long
+  family-long =
+      length-sets (set states (place s l b) own) (place s (l + 1) (parts s * b)) vs
+      ∙ length-set states (place s l b) own
+      ∙ f .long
 
   pub family-own : stateAt s (family s states l b own vs) l b ≡ own
   family-own =
       getD-sets-other (set states (place s l b) own) vs (place s (l + 1) (parts s * b)) (place s l b) 0
       (λ j h. omega (arith, behind j))
-      ∙ getD-set-same states (place s l b) own 0 (rw long (place-inside s l b (omega arith) block))
+      ∙ getD-set-same states (place s l b) own 0 (rw (f .long) (place-inside s l b (omega (arith, f .level)) (f .block)))
 
   pub family-part :
-      (j : ℕ) → j < parts s →
-      stateAt s (family s states l b own vs) (l + 1) (parts s * b + j)
-      ≡ getD vs j 0
+      (j : ℕ) → j < parts s → stateAt s (family s states l b own vs) (l + 1) (parts s * b + j) ≡ getD vs j 0
   family-part j h =
       ap (λ (n : ℕ). getD (family s states l b own vs) n 0) (part-place j)
-      ∙ getD-sets (set states (place s l b) own) vs (place s (l + 1) (parts s * b)) j 0 (rw wide h)
-      (rw (wide, length-set states (place s l b) own, long) (parts-placed s l b level block))
+      ∙ getD-sets (set states (place s l b) own) vs (place s (l + 1) (parts s * b)) j 0 (rw (f .wide) h)
+      (rw (f .wide, length-set states (place s l b) own, f .long) (parts-placed s l b (f .level) (f .block)))
 
   pub family-rest :
-      (m a : ℕ) → a < count s m → Elsewhere s l b m a →
-      stateAt s (family s states l b own vs) m a ≡ stateAt s states m a
+      (m a : ℕ) → a < count s m → Elsewhere s l b m a → stateAt s (family s states l b own vs) m a ≡ stateAt s states m a
   family-rest m a h d =
       getD-sets-other (set states (place s l b) own) vs (place s (l + 1) (parts s * b)) (place s m a) 0 none
       ∙ getD-set-other states (place s l b) (place s m a) own 0
-      (λ q. let w = place-once s m a l b h block q in d .0 (w .0) (w .1))
+      (λ q. let w = place-once s m a l b h (f .block) q in d .0 (w .0) (w .1))
     where
       none : (j : ℕ) → j < length vs → place s m a ≡ place s (l + 1) (parts s * b) + j → ⊥
       none j k q =
-          let i : j < parts s = omega arith in
-          let w = place-once s m a (l + 1) (parts s * b + j) h (part-inside s l b j block i) (q ∙ sym (part-place j)) in
+          let i : j < parts s = omega (arith, f .wide) in
+          let w = place-once s m a (l + 1) (parts s * b + j) h (part-inside s l b j (f .block) i) (q ∙ sym (part-place j)) in
           d .1 (w .0) (ap (λ (n : ℕ). n / parts s) (w .1) ∙ part-of (parts s) b j i)
 
   -- a test that doesn't tell the states of the block and of its parts from those before
@@ -101,7 +101,7 @@ module _ (s : Shape) (states : List ℕ) (l b own : ℕ) (vs : List ℕ) (long :
       (τ : ℕ → Bool) → τ own ≡ τ (stateAt s states l b) →
       ((j : ℕ) → j < parts s → τ (getD vs j 0) ≡ τ (stateAt s states (l + 1) (parts s * b + j))) →
       Alike τ states (family s states l b own vs)
-  family-alike τ e f i =
+  family-alike τ e k i =
       sets-test τ (set states (place s l b) own) vs (place s (l + 1) (parts s * b)) at i
       ∙ set-test τ states (place s l b) own e i
     where
@@ -109,6 +109,7 @@ module _ (s : Shape) (states : List ℕ) (l b own : ℕ) (vs : List ℕ) (long :
           (j : ℕ) → j < length vs →
           τ (getD vs j 0) ≡ τ (getD (set states (place s l b) own) (place s (l + 1) (parts s * b) + j) 0)
       at j h =
-          f j (omega arith)
+          k j (omega (arith, f .wide))
           ∙ ap (λ (n : ℕ). τ (getD states n 0)) (part-place j)
-          ∙ ap τ (sym (getD-set-other states (place s l b) (place s (l + 1) (parts s * b) + j) own 0 (omega (arith, behind j))))
+          ∙ ap τ
+          (sym (getD-set-other states (place s l b) (place s (l + 1) (parts s * b) + j) own 0 (omega (arith, behind j))))

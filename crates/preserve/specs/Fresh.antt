@@ -1,41 +1,39 @@
 -- Fresh tables are kept.
 -- Assumes nothing.
-use mathlib.Core.Path.{_≡_, refl, sym, _∙_, ap, ap₂}
-use mathlib.Core.Bool.{Bool, true, false, not, _&&_, _||_, Bool·beq}
-use mathlib.Core.Logic.{_⊎_, inl, inr}
+use mathlib.Core.Path.{_≡_, refl, sym, _∙_, ap}
+use mathlib.Core.Bool.{Bool, true, false, not}
+use mathlib.Core.Logic.{inr}
 use mathlib.Core.List.{List, [], _++_}
-use Prim.Native.Nat.{ℕ, zero, suc, _+_, _*_, _-_, _≤_, _<_}
+use Prim.Native.Nat.{ℕ, _+_, _*_, _-_, _≤_, _<_}
 use native.Mathlib.Decide.{decLt}
 use native.Mathlib.Omega.{arith}
 use lib.ListN.{length, getD, replicate, length-append, length-replicate, getD-replicate, List·getD-append}
 use lib.Seq.{getD-append-add}
-use lib.Dec.{leb, ltb, eqb}
+use lib.Dec.{leb, eqb}
 use borrow.Author.Tests.{le-leb, le-ltb}
-use Rattle.laws.specs.Tests.{bit, every, every-of, every-not, tally, both-of}
-use Rattle.laws.specs.Lists.{times, upFrom}
+use Rattle.laws.specs.Tests.{bit, every-of, every-not, both-of}
+use Rattle.laws.specs.Lists.{upFrom}
 use Rattle.laws.specs.Times.{times-none}
 use Rattle.shape.specs.declared.Shape.{Shape}
 use Rattle.shape.specs.Limits.{parts}
 use Rattle.shape.specs.Blocks.{count, above, place, blocks}
 use Rattle.shape.specs.Laws.{Limits, parts-pos, count-top, above-none, above-next, above-up, place-inside}
-use Rattle.shape.specs.Sections.{level-inside, levels-apart, part-inside}
-use Rattle.rules.specs.declared.Call.{Call}
-use Rattle.rules.specs.Numbers.{ALLOCATED, FREE, DIVIDED, NOEXIST, FREEING, ALLOCATING, DIVIDING, RELEASING, WAITING, CELLS}
-use Rattle.rules.specs.Tables.{State, stateAt, section, freeList, putList, queueOf, callOf, fresh}
-use Rattle.rules.specs.Valid.{statesKnown, ownersKnown, topsExist, partsExist, deepestWhole, buddiesMerged, listEnds, freeListed, callsKept, inHand, oneToOne, queueEnds, waitersQueued, runningReady}
+use Rattle.shape.specs.Sections.{level-inside, part-inside}
+use Rattle.rules.specs.Numbers.{ALLOCATED, FREE, DIVIDED, NOEXIST, FREEING, ALLOCATING, DIVIDING, RELEASING, CELLS}
+use Rattle.rules.specs.Tables.{stateAt, section, freeList, putList, queueOf, callOf, fresh}
+use Rattle.rules.specs.Valid.{statesKnown, ownersKnown, topsExist, partsExist, deepestWhole, buddiesMerged, listEnds, callsKept, inHand, oneToOne, queueEnds, waitersQueued, runningReady}
 use Rattle.rules.specs.Steps.{closed}
-use Rattle.rules.specs.ListLaws.{length-putList}
 use Rattle.preserve.specs.Lines.{Facts}
-use Rattle.preserve.specs.Changes.{tally-fails, getD-zeros, beq-of, times-among, times-outside}
+use Rattle.laws.specs.Changes.{tally-fails, getD-zeros, times-among, times-outside}
 use Rattle.preserve.specs.CallLines.{closed-kept}
-use Rattle.preserve.specs.FreeLists.{Lists, listed-of, ends-put, listed-put}
-use Rattle.preserve.specs.Queue.{Named, waiters-of}
+use Rattle.preserve.specs.FreeLists.{Lists, Listing, listed-of, listing-put}
+use Rattle.preserve.specs.Queue.{waiters-of}
 
 -- the states of fresh tables
 abbrev new : Shape → List ℕ
 new s = replicate (s .tops) FREE ++ replicate (blocks s - s .tops) NOEXIST
 
-module _ (s : Shape) (m : Limits s) where
+module _ {s : Shape} (m : Limits s) where
   -- the top blocks stand first
   above-one : above s 1 ≡ s .tops
   above-one = omega (arith, above-next s 0, above-none s, count-top s)
@@ -118,19 +116,21 @@ module _ (s : Shape) (m : Limits s) where
       rw (new-test (λ x. eqb x ALLOCATED) false refl refl k h, getD-zeros (blocks s) k, le-leb 0 (s .threads) (omega arith)))
 
   -- the top blocks are listed, and no other
-  no-ends : listEnds s (replicate (s .levels + blocks s) 0) ≡ true
-  unfolding listEnds
-  no-ends =
-      every-of (s .levels) _ (λ l h.
-      rw (getD-zeros (s .levels + blocks s) l)
-      (both-of _ _ (le-leb 0 (count s l) (omega arith))
-      (every-of (count s l) _ (λ i k. rw (le-ltb i 0 (omega arith), getD-zeros (s .levels + blocks s) (section s l + i))))))
-
-  no-lists : freeListed s [] (replicate (s .levels + blocks s) 0) ≡ true
-  unfolding freeList
+  no-lists : Listing s [] (replicate (s .levels + blocks s) 0)
+  unfolding listEnds freeList
   no-lists =
-      listed-of s [] (replicate (s .levels + blocks s) 0) (λ l h.
-      rw (getD-zeros (s .levels + blocks s) l) (record { each = λ b k. times-none b; others = λ b k. times-none b }))
+      record {
+        long = length-replicate (s .levels + blocks s) 0;
+        ends =
+            every-of (s .levels) _ (λ l h.
+            rw (getD-zeros (s .levels + blocks s) l)
+            (both-of _ _ (le-leb 0 (count s l) (omega arith))
+            (every-of (count s l) _ (λ i k.
+            rw (le-ltb i 0 (omega arith), getD-zeros (s .levels + blocks s) (section s l + i))))));
+        listed =
+            listed-of s [] (replicate (s .levels + blocks s) 0) (λ l h.
+            rw (getD-zeros (s .levels + blocks s) l) (record { each = λ b k. times-none b; others = λ b k. times-none b }));
+      }
 
   tops-listed : Lists s (new s) 0 (upFrom 0 (s .tops))
   tops-listed =
@@ -141,15 +141,9 @@ module _ (s : Shape) (m : Limits s) where
         others = λ b h. times-outside b 0 (s .tops) (inr (omega (arith, count-top s)));
       }
 
-  none-long : length (replicate {A = ℕ} (s .levels + blocks s) 0) ≡ s .levels + blocks s
-  none-long = length-replicate (s .levels + blocks s) 0
-
-  new-ends : listEnds s (putList s (replicate (s .levels + blocks s) 0) 0 (upFrom 0 (s .tops))) ≡ true
-  new-ends = ends-put s [] (new s) (replicate (s .levels + blocks s) 0) 0 (upFrom 0 (s .tops)) none-long (m .levels .0) tops-listed no-ends
-
-  new-listed : freeListed s (new s) (putList s (replicate (s .levels + blocks s) 0) 0 (upFrom 0 (s .tops))) ≡ true
-  new-listed =
-      listed-put s [] (new s) (replicate (s .levels + blocks s) 0) 0 (upFrom 0 (s .tops)) none-long (m .levels .0) tops-listed no-ends no-lists
+  new-lists : Listing s (new s) (putList s (replicate (s .levels + blocks s) 0) 0 (upFrom 0 (s .tops)))
+  new-lists =
+      listing-put no-lists (m .levels .0) tops-listed
       (λ l b d i h. ap (λ (x : ℕ). eqb x FREE) (below-none l b (omega arith) i h))
 
   -- no call is open
@@ -187,33 +181,33 @@ module _ (s : Shape) (m : Limits s) where
       waiters-of s (replicate (CELLS * s .threads) 0) (replicate (s .threads + 1) 0)
       (rw (getD-zeros (s .threads + 1) 0) (record { each = λ t h. rw (no-call t) (times-none t); others = λ t h. times-none t }))
 
-pub fresh-kept : (s : Shape) → Limits s → Facts s (fresh s)
+pub fresh-kept : {s : Shape} → Limits s → Facts s (fresh s)
 unfolding fresh runningReady
-fresh-kept s m =
+fresh-kept {s} m =
     record {
-      long =
+      pool =
           record {
-            states = new-long s m;
-            owners = length-replicate (blocks s) 0;
-            lists = length-putList s (replicate (s .levels + blocks s) 0) 0 (upFrom 0 (s .tops)) ∙ none-long s m;
-            calls = length-replicate (CELLS * s .threads) 0;
-            queue = length-replicate (s .threads + 1) 0;
+            long = new-long m;
+            ownersLong = length-replicate (blocks s) 0;
+            listsLong = new-lists m .long;
+            known = new-known m;
+            owned = new-owners m;
+            tops = new-tops m;
+            parts = new-parts m;
+            deepest = new-deepest m;
+            merged = new-merged m;
+            ends = new-lists m .ends;
+            listed = new-lists m .listed;
           };
-      lines =
+      threads =
           record {
-            statesKnown = new-known s m;
-            ownersKnown = new-owners s m;
-            topsExist = new-tops s m;
-            partsExist = new-parts s m;
-            deepestWhole = new-deepest s m;
-            buddiesMerged = new-merged s m;
-            listEnds = new-ends s m;
-            freeListed = new-listed s m;
-            callsKept = new-calls s m;
-            allocating = new-hands s m ALLOCATING DIVIDING refl refl refl;
-            freeing = new-hands s m FREEING RELEASING refl refl refl;
-            queueEnds = new-ended s m;
-            waitersQueued = new-queue s m;
-            runningReady = refl;
+            long = length-replicate (CELLS * s .threads) 0;
+            queueLong = length-replicate (s .threads + 1) 0;
+            kept = new-calls m;
+            allocating = new-hands m ALLOCATING DIVIDING refl refl refl;
+            freeing = new-hands m FREEING RELEASING refl refl refl;
+            ends = new-ended m;
+            waiters = new-queue m;
+            running = refl;
           };
     }

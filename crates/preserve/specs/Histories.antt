@@ -1,15 +1,13 @@
 -- Tables stay valid over any history: fresh tables are, and every public call leaves valid tables valid.
 -- Assumes nothing.
-use mathlib.Core.Path.{_≡_, refl, sym, _∙_, ap}
-use mathlib.Core.Bool.{Bool, true, false, not}
+use mathlib.Core.Path.{_≡_, refl}
+use mathlib.Core.Bool.{true, not}
 use mathlib.Core.List.{List, [], _∷_}
-use Prim.Native.Nat.{ℕ, _+_, _<_}
-use lib.IntN.{ℤ}
+use Prim.Native.Nat.{ℕ}
 use lib.ListN.{take}
 use lib.Dec.{ltb, eqb}
 use borrow.Author.Tests.{eqb-true, eqb-false}
 use Rattle.shape.specs.declared.Shape.{Shape}
-use Rattle.shape.specs.declared.time.Millis.{Millis}
 use Rattle.shape.specs.Limits.{allowed}
 use Rattle.shape.specs.Blocks.{levelFor}
 use Rattle.shape.specs.Laws.{Limits, limits}
@@ -24,7 +22,7 @@ use Rattle.rules.specs.Calls.{checked, byRunning, build, ask, goOn, give, switc
 use Rattle.theorems.specs.History.{Step, Build, Ask, GoOn, Give, Switch, Tick, Whole, stepOn, runSteps}
 use Rattle.theorems.specs.Refusals.{on-either, past, past-checked, past-running}
 use Rattle.theorems.specs.Given.{left-over}
-use Rattle.preserve.specs.Lines.{Kept, Facts, facts, kept-of}
+use Rattle.preserve.specs.Lines.{Facts, facts, kept-of}
 use Rattle.preserve.specs.Runs.{Runs, ready, own-facts}
 use Rattle.preserve.specs.Asks.{ask-kept, switch-kept, tick-kept}
 use Rattle.preserve.specs.Looks.{look-kept}
@@ -36,27 +34,27 @@ use Rattle.preserve.specs.Settles.{settle-kept}
 use Rattle.preserve.specs.Fresh.{fresh-kept}
 
 -- go on, by the call's stage
-module _ (s : Shape) (T : State) (t : ℕ) (c : Call) (g : Runs s T t c) where
+module _ {s : Shape} {T : State} {t : ℕ} {c : Call} (g : Runs s T t c) where
   divide-kept : c .stage ≡ DIVIDING → Facts s (divideStep s T t c .after)
   unfolding divideStep
   divide-kept e =
-      on-either (Facts s) (ltb (c .level) (levelFor s (c .size))) _ _ (split-kept s T t c g e) (λ _. grant-kept s T t c g e)
+      on-either (Facts s) (ltb (c .level) (levelFor s (c .size))) _ _ (split-kept g e) (λ _. grant-kept g e)
 
   release-kept : c .stage ≡ RELEASING → Facts s (releaseStep s T t c .after)
   unfolding releaseStep
   release-kept e =
-      on-either (Facts s) (merges s (T .states) (c .level) (c .block)) _ _ (merge-kept s T t c g e) (settle-kept s T t c g e)
+      on-either (Facts s) (merges s (T .states) (c .level) (c .block)) _ _ (merge-kept g e) (settle-kept g e)
 
   step-kept : (c .stage ≡ CLOSED → ⊥) → Facts s (goOnStep s T t c .after)
   unfolding goOnStep
   step-kept n =
-      on-either (Facts s) (eqb (c .stage) ASKED) _ _ (λ a. look-kept s T t c g (eqb-true _ _ a)) (λ a.
-      on-either (Facts s) (eqb (c .stage) FOUND) _ _ (λ f. take-kept s T t c g (eqb-true _ _ f)) (λ f.
+      on-either (Facts s) (eqb (c .stage) ASKED) _ _ (λ a. look-kept g (eqb-true _ _ a)) (λ a.
+      on-either (Facts s) (eqb (c .stage) FOUND) _ _ (λ f. take-kept g (eqb-true _ _ f)) (λ f.
       on-either (Facts s) (eqb (c .stage) DIVIDING) _ _ (λ d. divide-kept (eqb-true _ _ d)) (λ d.
       release-kept
-      (left-over c (own-facts s T t c g .fields) n (eqb-false _ _ a) (eqb-false _ _ f) (eqb-false _ _ d) (ready s T t c g)))))
+      (left-over c (own-facts g .fields) n (eqb-false _ _ a) (eqb-false _ _ f) (eqb-false _ _ d) (ready g)))))
 
-module _ (s : Shape) (T : State) (m : Limits s) (f : Facts s T) where
+module _ {s : Shape} {T : State} (m : Limits s) (f : Facts s T) where
   -- a call by a thread that runs
   by-running :
       (t : ℕ) (rest : Outcome) → (Runs s T t (callOf (T .calls) t) → Facts s (rest .after)) →
@@ -70,13 +68,13 @@ module _ (s : Shape) (T : State) (m : Limits s) (f : Facts s T) where
   unfolding stepOn build ask goOn give switch tick
   steps-kept Build =
       past (Facts s) (not (allowed s)) ShapeNotAllowed T _ f (λ a.
-      past (Facts s) (not (lengths s T)) WrongLength T _ f (λ l. fresh-kept s m))
-  steps-kept (Ask t size ms) = by-running t _ (λ g. ask-kept s T t _ g size (wait ms) (wait-most ms))
+      past (Facts s) (not (lengths s T)) WrongLength T _ f (λ l. fresh-kept m))
+  steps-kept (Ask t size ms) = by-running t _ (λ g. ask-kept g size (wait ms) (wait-most ms))
   steps-kept (GoOn t) =
       by-running t _ (λ g.
       past (Facts s) (eqb (callOf (T .calls) t .stage) CLOSED) NoCall T _ f (λ o.
-      step-kept s T t (callOf (T .calls) t) g (eqb-false _ _ o)))
-  steps-kept (Give t i) = by-running t _ (λ g. give-kept s T t _ g i)
+      step-kept g (eqb-false _ _ o)))
+  steps-kept (Give t i) = by-running t _ (λ g. give-kept g i)
   steps-kept (Switch t) = past-checked (Facts s) s T _ f (λ a l v. switch-kept s T t f)
   steps-kept Tick = past-checked (Facts s) s T _ f (λ a l v. tick-kept s T f)
   steps-kept Whole = f
@@ -85,10 +83,17 @@ module _ (s : Shape) (T : State) (m : Limits s) (f : Facts s T) where
 pub steps-valid :
     (s : Shape) (T : State) (x : Step) → allowed s ≡ true → lengths s T ≡ true → valid s T ≡ true →
     (lengths s (stepOn s T x .after) ≡ true) × (valid s (stepOn s T x .after) ≡ true)
-steps-valid s T x a l v = kept-of s _ (steps-kept s T (limits s a) (facts s T (l, v)) x)
+steps-valid s T x a l v = kept-of s _ (steps-kept (limits s a) (facts s T (l, v)) x)
 
 pub fresh-valid : (s : Shape) → allowed s ≡ true → (lengths s (fresh s) ≡ true) × (valid s (fresh s) ≡ true)
-fresh-valid s a = kept-of s _ (fresh-kept s (limits s a))
+fresh-valid s a = kept-of s _ (fresh-kept (limits s a))
+
+-- and so does a build whatever the tables held, where their lengths are right
+pub build-valid :
+    (s : Shape) (T : State) → allowed s ≡ true → lengths s T ≡ true →
+    (lengths s (stepOn s T Build .after) ≡ true) × (valid s (stepOn s T Build .after) ≡ true)
+unfolding stepOn build
+build-valid s T a l = rw (a, l) (fresh-valid s a)
 
 -- so does a history
 pub runs-valid :

@@ -1,5 +1,4 @@
 pub mod Lines
-pub mod Changes
 pub mod CallLines
 pub mod OneCall
 pub mod Queue
@@ -7,18 +6,18 @@ pub mod Runs
 pub mod Looks
 pub mod States
 pub mod FreeLists
+pub mod Woken
 pub mod OneState
 pub mod Turns
 pub mod Takes
 pub mod Owns
-pub mod Woken
 pub mod Wakes
-pub mod Settles
 pub mod Asks
+pub mod Settles
 pub mod Family
 pub mod FamilyLines
-pub mod FamilyKept
 pub mod FamilyLists
+pub mod FamilyKept
 pub mod Splits
 pub mod Merges
 pub mod Fresh

@@ -1,65 +1,109 @@
--- Tables that have their lengths and pass each line of `valid` are tables of the shape in a valid state.
+-- The lines of `valid` and the lengths in two groups: what is said of a pool's tables alone, and what of the threads' tables.
 -- Assumes nothing.
 use mathlib.Core.Path.{_≡_}
 use mathlib.Core.Bool.{true}
+use mathlib.Core.List.{List}
+use Prim.Native.Nat.{ℕ, _+_, _*_}
+use lib.ListN.{length}
 use borrow.Author.Tests.{eq-eqb}
 use Rattle.laws.specs.Tests.{both-of}
 use Rattle.shape.specs.declared.Shape.{Shape}
+use Rattle.shape.specs.Blocks.{blocks}
+use Rattle.rules.specs.declared.Device.{Device}
+use Rattle.rules.specs.Numbers.{FREEING, ALLOCATING, DIVIDING, RELEASING, CELLS}
 use Rattle.rules.specs.Tables.{State, lengths}
-use Rattle.rules.specs.Valid.{valid, callKept}
+use Rattle.rules.specs.Valid.{statesKnown, ownersKnown, topsExist, partsExist, deepestWhole, buddiesMerged, listEnds, freeListed, callsKept, oneToOne, queueEnds, waitersQueued, runningReady, valid}
 use Rattle.rules.specs.Facts.{ValidFacts, valid-facts}
-use Rattle.rules.specs.Room.{LengthFacts, length-facts, CallFacts}
-use Rattle.rules.specs.declared.Call.{Call}
-use Prim.Native.Nat.{ℕ}
+use Rattle.rules.specs.Room.{LengthFacts, length-facts}
 
 -- the tables have the shape's lengths and are a valid state
 abbrev pub Kept : Shape → State → Type 0
 Kept s T = (lengths s T ≡ true) × (valid s T ≡ true)
 
--- the same, table by table and line by line
+pub record Pool (s : Shape) (states owners lists : List ℕ) : Type 0 where
+  pub long : length states ≡ blocks s
+  pub ownersLong : length owners ≡ blocks s
+  pub listsLong : length lists ≡ s .levels + blocks s
+  pub known : statesKnown s states ≡ true
+  pub owned : ownersKnown s states owners ≡ true
+  pub tops : topsExist s states ≡ true
+  pub parts : partsExist s states ≡ true
+  pub deepest : deepestWhole s states ≡ true
+  pub merged : buddiesMerged s states ≡ true
+  pub ends : listEnds s lists ≡ true
+  pub listed : freeListed s states lists ≡ true
+
+pub record Threads (s : Shape) (states calls queue : List ℕ) (device : Device) : Type 0 where
+  pub long : length calls ≡ CELLS * s .threads
+  pub queueLong : length queue ≡ s .threads + 1
+  pub kept : callsKept s (device .clock) calls ≡ true
+  pub allocating : oneToOne ALLOCATING DIVIDING s states calls ≡ true
+  pub freeing : oneToOne FREEING RELEASING s states calls ≡ true
+  pub ends : queueEnds s queue ≡ true
+  pub waiters : waitersQueued s calls queue ≡ true
+  pub running : runningReady s calls device ≡ true
+
 pub record Facts (s : Shape) (T : State) : Type 0 where
-  pub long : LengthFacts s T
-  pub lines : ValidFacts s T
+  pub pool : Pool s (T .states) (T .owners) (T .lists)
+  pub threads : Threads s (T .states) (T .calls) (T .queue) (T .device)
 
 pub facts : (s : Shape) (T : State) → Kept s T → Facts s T
-facts s T k = record { long = length-facts s T (k .0); lines = valid-facts s T (k .1) }
+facts s T k = of (length-facts s T (k .0)) (valid-facts s T (k .1))
+  where
+    of : LengthFacts s T → ValidFacts s T → Facts s T
+    of n v =
+        record {
+          pool =
+              record {
+                long = n .states;
+                ownersLong = n .owners;
+                listsLong = n .lists;
+                known = v .statesKnown;
+                owned = v .ownersKnown;
+                tops = v .topsExist;
+                parts = v .partsExist;
+                deepest = v .deepestWhole;
+                merged = v .buddiesMerged;
+                ends = v .listEnds;
+                listed = v .freeListed;
+              };
+          threads =
+              record {
+                long = n .calls;
+                queueLong = n .queue;
+                kept = v .callsKept;
+                allocating = v .allocating;
+                freeing = v .freeing;
+                ends = v .queueEnds;
+                waiters = v .waitersQueued;
+                running = v .runningReady;
+              };
+        }
 
-lengths-of : (s : Shape) (T : State) → LengthFacts s T → lengths s T ≡ true
+-- and they are all that is said of them
+lengths-of : (s : Shape) (T : State) → Facts s T → lengths s T ≡ true
 unfolding lengths
-lengths-of s T n =
+lengths-of s T f =
     both-of _ _
     (both-of _ _
-    (both-of _ _ (both-of _ _ (eq-eqb _ _ (n .states)) (eq-eqb _ _ (n .owners))) (eq-eqb _ _ (n .lists)))
-    (eq-eqb _ _ (n .calls)))
-    (eq-eqb _ _ (n .queue))
+    (both-of _ _ (both-of _ _ (eq-eqb _ _ (f .pool .long)) (eq-eqb _ _ (f .pool .ownersLong)))
+    (eq-eqb _ _ (f .pool .listsLong)))
+    (eq-eqb _ _ (f .threads .long)))
+    (eq-eqb _ _ (f .threads .queueLong))
 
-valid-of : (s : Shape) (T : State) → ValidFacts s T → valid s T ≡ true
+valid-of : (s : Shape) (T : State) → Facts s T → valid s T ≡ true
 unfolding valid
-valid-of s T v =
+valid-of s T f =
     both-of _ _
     (both-of _ _
     (both-of _ _
     (both-of _ _
-    (both-of _ _ (both-of _ _ (v .statesKnown) (v .ownersKnown))
-    (both-of _ _ (both-of _ _ (both-of _ _ (v .topsExist) (v .partsExist)) (v .deepestWhole)) (v .buddiesMerged)))
-    (both-of _ _ (v .listEnds) (v .freeListed)))
-    (v .callsKept))
-    (both-of _ _ (v .allocating) (v .freeing)))
-    (both-of _ _ (both-of _ _ (v .queueEnds) (v .waitersQueued)) (v .runningReady))
+    (both-of _ _ (both-of _ _ (f .pool .known) (f .pool .owned))
+    (both-of _ _ (both-of _ _ (both-of _ _ (f .pool .tops) (f .pool .parts)) (f .pool .deepest)) (f .pool .merged)))
+    (both-of _ _ (f .pool .ends) (f .pool .listed)))
+    (f .threads .kept))
+    (both-of _ _ (f .threads .allocating) (f .threads .freeing)))
+    (both-of _ _ (both-of _ _ (f .threads .ends) (f .threads .waiters)) (f .threads .running))
 
 pub kept-of : (s : Shape) (T : State) → Facts s T → Kept s T
-kept-of s T f = (lengths-of s T (f .long), valid-of s T (f .lines))
-
--- what is said of one call by itself
-pub call-kept-of : (s : Shape) (clock : ℕ) (c : Call) → CallFacts s clock c → callKept s clock c ≡ true
-unfolding callKept
-call-kept-of s clock c f =
-    both-of _ _
-    (both-of _ _
-    (both-of _ _
-    (both-of _ _
-    (both-of _ _ (both-of _ _ (f .fields) (f .hand)) (f .target))
-    (f .size))
-    (f .found))
-    (f .deadline))
-    (f .waits)
+kept-of s T f = (lengths-of s T f, valid-of s T f)

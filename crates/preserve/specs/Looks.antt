@@ -1,14 +1,14 @@
 -- Asked: a call that looks for room ends, finds a level, or waits; the tables stay kept.
 -- Assumes nothing.
 use mathlib.Core.Path.{_≡_, refl, sym, _∙_, ap, ap₂}
-use mathlib.Core.Bool.{Bool, true, false, cond, _&&_, _||_, true≢false}
+use mathlib.Core.Bool.{Bool, true, false, cond, _&&_, true≢false}
 use mathlib.Core.List.{List, [], _∷_, _++_}
 use Prim.Native.Nat.{ℕ, zero, suc, _+_, _≤_, _<_}
 use native.Mathlib.Omega.{arith}
 use lib.ListN.{getD}
 use lib.Dec.{ltb, eqb}
-use borrow.Author.Tests.{ltb-false, eqb-true, eqb-false, eq-eqb, ne-eqb}
-use Rattle.laws.specs.Tests.{bit, both-of}
+use borrow.Author.Tests.{ltb-false, eqb-false, eq-eqb, ne-eqb}
+use Rattle.laws.specs.Tests.{bit}
 use Rattle.laws.specs.Lists.{times}
 use Rattle.laws.specs.Times.{times-append, times-one}
 use Rattle.shape.specs.declared.Shape.{Shape}
@@ -17,14 +17,15 @@ use Rattle.rules.specs.declared.Call.{Call}
 use Rattle.rules.specs.declared.Room.{Room}
 use Rattle.rules.specs.declared.Room.the-variants.{At, Nowhere}
 use Rattle.rules.specs.Numbers.{FREEING, ALLOCATING, ASKED, FOUND, DIVIDING, RELEASING, WAITING, NEVER, TIMED}
-use Rattle.rules.specs.Tables.{State, queueOf, putQueue, putCall}
-use Rattle.rules.specs.Valid.{usesWait, usesBlock, runningReady}
-use Rattle.rules.specs.Steps.{Outcome, onlyCall, closed, moved, deepest, noRoom, lookAt, look}
+use Rattle.rules.specs.Tables.{State, state, queueOf, putQueue, putCall}
+use Rattle.rules.specs.Valid.{usesBlock, runningReady}
+use Rattle.rules.specs.Steps.{onlyCall, closed, moved, deepest, noRoom, lookAt, look}
+use Rattle.calls.specs.Call.{length-putCall}
 use Rattle.theorems.specs.Refusals.{on-either}
 use Rattle.preserve.specs.Lines.{Facts}
-use Rattle.preserve.specs.CallLines.{Asks, asks, closed-kept, found-kept, waiting-kept}
+use Rattle.preserve.specs.CallLines.{uses-block, closed-kept, found-kept, waiting-kept}
 use Rattle.preserve.specs.Queue.{Named, queue-put, queue-ends, queue-long}
-use Rattle.preserve.specs.Runs.{Runs, empty-hand, not-queued, own-facts, long-after, calls-after, hands-after, named-after, only-call}
+use Rattle.preserve.specs.Runs.{Runs, asking, not-queued, calls-after, idle-after, named-after, only-call}
 
 -- the level found is the one looked from, or above it
 deepest-most : (lists : List ℕ) (n l : ℕ) → deepest lists n ≡ At l → l ≤ n
@@ -45,90 +46,63 @@ second : (a b : Bool) → (a && b) ≡ false → a ≡ true → b ≡ false
 second true b e h = e
 second false b e h = absurd (true≢false (sym h))
 
-module _ (s : Shape) (T : State) (t : ℕ) (c : Call) (g : Runs s T t c) (e : c .stage ≡ ASKED) where
+module _ {s : Shape} {T : State} {t : ℕ} {c : Call} (g : Runs s T t c) (e : c .stage ≡ ASKED) where
   idle : usesBlock c ≡ false
-  idle = ap (λ (n : ℕ). eqb n DIVIDING || eqb n RELEASING) e
-
-  asking : Asks s (T .device .clock) c
-  asking =
-      asks s (T .device .clock) c (own-facts s T t c g)
-      (ap (λ (n : ℕ). eqb n ASKED || eqb n WAITING || eqb n FOUND) e)
-      idle
+  idle = uses-block c ASKED e
 
   -- the call ends
   ended : Facts s (onlyCall T t closed)
-  ended = only-call s T t c g closed idle refl (λ q. omega arith) (closed-kept s (T .device .clock))
+  ended = only-call g closed idle refl (λ q. omega arith) (closed-kept s (T .device .clock))
 
-  -- it joins the queue's end, blocked, and nobody runs
-  waits :
-      (c .wait ≡ NEVER → ⊥) → (c .wait ≡ TIMED → T .device .clock < c .deadline) →
-      Facts s
-      (record {
-        states = T .states;
-        owners = T .owners;
-        lists = T .lists;
-        calls = putCall (T .calls) t (moved c WAITING 0);
-        queue = putQueue (s .threads) (queueOf (T .queue) ++ (t ∷ []));
-        device = record { clock = T .device .clock; running = 0 };
-      })
-  unfolding runningReady
-  waits n d =
-      record {
-        long =
-            record {
-              states = g .facts .long .states;
-              owners = g .facts .long .owners;
-              lists = g .facts .long .lists;
-              calls = long-after s T t c g (moved c WAITING 0);
-              queue = queue-long s _ _ joined;
-            };
-        lines =
-            record {
-              statesKnown = g .facts .lines .statesKnown;
-              ownersKnown = g .facts .lines .ownersKnown;
-              topsExist = g .facts .lines .topsExist;
-              partsExist = g .facts .lines .partsExist;
-              deepestWhole = g .facts .lines .deepestWhole;
-              buddiesMerged = g .facts .lines .buddiesMerged;
-              listEnds = g .facts .lines .listEnds;
-              freeListed = g .facts .lines .freeListed;
-              callsKept = calls-after s T t c g (moved c WAITING 0) (waiting-kept s (T .device .clock) c asking n d);
-              allocating =
-                  hands-after s T t c g ALLOCATING DIVIDING (moved c WAITING 0) (T .states) (g .facts .lines .allocating)
-                  (λ l b i j. rw (empty-hand DIVIDING l b c refl idle));
-              freeing =
-                  hands-after s T t c g FREEING RELEASING (moved c WAITING 0) (T .states) (g .facts .lines .freeing)
-                  (λ l b i j. rw (empty-hand RELEASING l b c refl idle));
-              queueEnds = queue-ends s _ _ joined;
-              waitersQueued = queue-put s _ _ joined;
-              runningReady = refl;
-            };
-      }
+  -- it joins the queue's end
+  joined : Named s (putCall (T .calls) t (moved c WAITING 0)) (queueOf (T .queue) ++ (t ∷ []))
+  joined =
+      named-after g (moved c WAITING 0) (queueOf (T .queue) ++ (t ∷ [])) mine
+      (λ u q. times-append u (queueOf (T .queue)) (t ∷ []) ∙ omega (arith, times-one u t ∙ ap bit (ne-eqb u t q)))
     where
       mine : times t (queueOf (T .queue) ++ (t ∷ [])) ≡ 1
       mine =
           times-append t (queueOf (T .queue)) (t ∷ [])
-          ∙ ap₂ _+_ (not-queued s T t c g) (times-one t t ∙ ap bit (eq-eqb t t refl))
+          ∙ ap₂ _+_ (not-queued g) (times-one t t ∙ ap bit (eq-eqb t t refl))
 
-      joined : Named s (putCall (T .calls) t (moved c WAITING 0)) (queueOf (T .queue) ++ (t ∷ []))
-      joined =
-          named-after s T t c g (moved c WAITING 0) (queueOf (T .queue) ++ (t ∷ [])) mine
-          (λ u q. times-append u (queueOf (T .queue)) (t ∷ [])
-          ∙ omega (arith, times-one u t ∙ ap bit (ne-eqb u t q)))
+  -- blocked, and nobody runs
+  waits :
+      (c .wait ≡ NEVER → ⊥) → (c .wait ≡ TIMED → T .device .clock < c .deadline) →
+      Facts s
+      (state (T .states) (T .owners) (T .lists) (putCall (T .calls) t (moved c WAITING 0))
+      (putQueue (s .threads) (queueOf (T .queue) ++ (t ∷ [])))
+      (record { clock = T .device .clock; running = 0 }))
+  unfolding runningReady
+  waits n d =
+      record {
+        pool = g .facts .pool;
+        threads =
+            record {
+              long = length-putCall (T .calls) t (moved c WAITING 0) ∙ g .facts .threads .long;
+              queueLong = queue-long joined;
+              kept =
+                  calls-after g (moved c WAITING 0)
+                  (waiting-kept s (T .device .clock) c (asking g ASKED e refl refl) n d);
+              allocating = idle-after g ALLOCATING DIVIDING (moved c WAITING 0) refl idle refl (g .facts .threads .allocating);
+              freeing = idle-after g FREEING RELEASING (moved c WAITING 0) refl idle refl (g .facts .threads .freeing);
+              ends = queue-ends joined;
+              waiters = queue-put joined;
+              running = refl;
+            };
+      }
 
   -- no level has room; the call isn't past its deadline
-  none-kept :
-      (eqb (c .wait) TIMED && ltb (c .deadline) (T .device .clock)) ≡ false → Facts s (noRoom s T t c .after)
+  none-kept : (eqb (c .wait) TIMED && ltb (c .deadline) (T .device .clock)) ≡ false → Facts s (noRoom s T t c .after)
   unfolding noRoom
   none-kept o =
       on-either (Facts s) (eqb (c .wait) NEVER) _ _ (λ _. ended) (λ n.
       on-either (Facts s) (eqb (c .wait) TIMED && eqb (c .deadline) (T .device .clock)) _ _ (λ _. ended)
-      (λ d. waits (eqb-false (c .wait) NEVER n) (late d)))
+      (λ d. waits (eqb-false (c .wait) NEVER n) (before d)))
     where
-      late :
+      before :
           (eqb (c .wait) TIMED && eqb (c .deadline) (T .device .clock)) ≡ false → c .wait ≡ TIMED →
           T .device .clock < c .deadline
-      late d q =
+      before d q =
           let w : eqb (c .wait) TIMED ≡ true = eq-eqb _ _ q in
           omega (
             arith,
@@ -143,9 +117,10 @@ module _ (s : Shape) (T : State) (t : ℕ) (c : Call) (g : Runs s T t c) (e : c 
       (λ o. at o (deepest (T .lists) (levelFor s (c .size))) refl)
     where
       at :
-          (eqb (c .wait) TIMED && ltb (c .deadline) (T .device .clock)) ≡ false →
-          (r : Room) → deepest (T .lists) (levelFor s (c .size)) ≡ r → Facts s (lookAt s T t c r .after)
+          (eqb (c .wait) TIMED && ltb (c .deadline) (T .device .clock)) ≡ false → (r : Room) →
+          deepest (T .lists) (levelFor s (c .size)) ≡ r → Facts s (lookAt s T t c r .after)
       at o (At l) q =
-          only-call s T t c g (moved c FOUND l) idle refl (λ q. omega arith)
-          (found-kept s (T .device .clock) c asking l (deepest-most (T .lists) (levelFor s (c .size)) l q))
+          only-call g (moved c FOUND l) idle refl (λ q. omega arith)
+          (found-kept s (T .device .clock) c (asking g ASKED e refl refl) l
+          (deepest-most (T .lists) (levelFor s (c .size)) l q))
       at o Nowhere q = none-kept o

@@ -1,16 +1,15 @@
 -- One thread's call is put: what the lines on calls say of the others stays, and a count over all threads changes by that one.
 -- Assumes nothing.
-use mathlib.Core.Path.{_≡_, refl, sym, _∙_, ap}
-use mathlib.Core.Bool.{Bool, true, false, not, _&&_, _||_}
-use mathlib.Core.Logic.{_≢_}
+use mathlib.Core.Path.{_≡_, refl, sym, ap}
+use mathlib.Core.Bool.{Bool, true, false, _&&_}
 use mathlib.Core.List.{List}
-use Prim.Native.Nat.{ℕ, _+_, _*_, _-_, _≤_, _<_}
+use Prim.Native.Nat.{ℕ, _+_, _*_, _-_, _<_}
 use native.Mathlib.Decide.{ℕ-discrete}
 use native.Mathlib.Omega.{arith}
 use lib.ListN.{length}
-use lib.Dec.{leb, eqb}
+use lib.Dec.{eqb}
 use borrow.Author.Tests.{le-leb, eqb-true, eq-eqb, ne-eqb}
-use Rattle.laws.specs.Tests.{bit, every-at, every-of, tally, both-of}
+use Rattle.laws.specs.Tests.{bit, every-at, every-of, tally}
 use Rattle.shape.specs.declared.Shape.{Shape}
 use Rattle.shape.specs.Blocks.{count}
 use Rattle.rules.specs.declared.Call.{Call}
@@ -19,11 +18,25 @@ use Rattle.rules.specs.Numbers.{WAITING, CELLS}
 use Rattle.rules.specs.Tables.{stateAt, callOf, putCall}
 use Rattle.rules.specs.Valid.{inHand, oneToOne, callKept, callsKept, runningReady}
 use Rattle.calls.specs.Call.{callOf-putCall, callOf-putCall-other}
-use Rattle.preserve.specs.Changes.{tally-one}
+use Rattle.laws.specs.Changes.{tally-one}
 
 -- a call at another stage has no block in hand for this one
 pub not-in-hand : (stage l b : ℕ) (c : Call) → (c .stage ≡ stage → ⊥) → inHand stage l b c ≡ false
 not-in-hand stage l b c n = rw (ne-eqb _ _ n)
+
+-- nor has one whose block in hand is another
+pub hand-elsewhere : (stage l b : ℕ) (c : Call) → (c .level ≡ l → c .block ≡ b → ⊥) → inHand stage l b c ≡ false
+hand-elsewhere stage l b c n = go (eqb (c .stage) stage) (ℕ-discrete (c .level) l) (ℕ-discrete (c .block) b)
+  where
+    go : (x : Bool) → Dec (c .level ≡ l) → Dec (c .block ≡ b) → (x && eqb (c .level) l && eqb (c .block) b) ≡ false
+    go false p q = refl
+    go true (no p) q = rw (ne-eqb _ _ p)
+    go true (yes p) (no q) = rw (eq-eqb _ _ p, ne-eqb _ _ q)
+    go true (yes p) (yes q) = absurd (n p q)
+
+pub hand-there :
+    (stage l b : ℕ) (c : Call) → c .stage ≡ stage → c .level ≡ l → c .block ≡ b → inHand stage l b c ≡ true
+hand-there stage l b c e f g = rw (eq-eqb _ _ e, eq-eqb _ _ f, eq-eqb _ _ g)
 
 -- a thread that isn't blocked may run
 pub running-of :

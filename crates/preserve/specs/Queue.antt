@@ -1,15 +1,15 @@
 -- The wait queue: a list that names each waiting thread once and nothing else may be put as the queue.
 -- Assumes nothing.
-use mathlib.Core.Path.{_≡_, refl, sym, _∙_, ap}
-use mathlib.Core.Bool.{Bool, true, false, not, _&&_, _||_}
+use mathlib.Core.Path.{_≡_}
+use mathlib.Core.Bool.{true, _||_}
 use mathlib.Core.List.{List, _∷_}
-use Prim.Native.Nat.{ℕ, suc, _+_, _*_, _-_, _≤_, _<_}
+use Prim.Native.Nat.{ℕ, suc, _+_, _≤_, _<_}
 use native.Mathlib.Decide.{decLt}
 use native.Mathlib.Omega.{arith}
 use lib.ListN.{length, getD, List·getD-eq-default}
-use lib.Dec.{leb, ltb, eqb}
+use lib.Dec.{ltb, eqb}
 use borrow.Author.Tests.{le-leb, lt-ltb, le-ltb, eqb-true, eq-eqb}
-use Rattle.laws.specs.Tests.{bit, every, every-at, every-of, tally, tally-most, both, both-of}
+use Rattle.laws.specs.Tests.{bit, every, every-at, every-of, tally-most, both, both-of}
 use Rattle.laws.specs.Lists.{times, pad}
 use Rattle.laws.specs.Sums.{members-counted}
 use Rattle.laws.specs.Rows.{getD-pad}
@@ -18,7 +18,7 @@ use Rattle.rules.specs.Numbers.{WAITING}
 use Rattle.rules.specs.Tables.{queueOf, putQueue, callOf}
 use Rattle.rules.specs.Valid.{queueEnds, waitersQueued}
 use Rattle.calls.specs.Queue.{queueOf-putQueue, length-putQueue}
-use Rattle.preserve.specs.Changes.{none-behind, all-below}
+use Rattle.laws.specs.Changes.{none-behind, all-below}
 
 -- a list names each waiting thread once and nothing else
 pub record Named (s : Shape) (calls xs : List ℕ) : Type 0 where
@@ -41,7 +41,7 @@ waiters-of s calls queue n =
     both-of _ _ (all-below (s .threads) (queueOf queue) (n .others))
     (every-of (s .threads) _ (λ t h. eq-eqb _ _ (n .each t h)))
 
-module _ (s : Shape) (calls xs : List ℕ) (n : Named s calls xs) where
+module _ {s : Shape} {calls xs : List ℕ} (n : Named s calls xs) where
   -- it is no longer than there are threads
   pub named-most : length xs ≤ s .threads
   named-most =

@@ -1,28 +1,28 @@
--- A thread runs and its call is put: what the lines on calls, hands and waiting say afterwards.
+-- A thread runs and its call is put: what is said of the threads' tables afterwards.
 -- Assumes nothing.
 use mathlib.Core.Path.{_≡_, refl, sym, _∙_, ap}
-use mathlib.Core.Bool.{Bool, true, false, _||_, true≢false}
+use mathlib.Core.Bool.{true, false, _||_, true≢false}
 use mathlib.Core.List.{List}
-use Prim.Native.Nat.{ℕ, _+_, _*_, _<_}
+use Prim.Native.Nat.{ℕ, _+_, _<_}
 use native.Mathlib.Decide.{ℕ-discrete}
 use native.Mathlib.Omega.{arith}
-use lib.ListN.{length}
 use lib.Dec.{eqb}
 use borrow.Author.Tests.{ne-eqb}
 use Rattle.laws.specs.Tests.{bit}
 use Rattle.laws.specs.Lists.{times}
 use Rattle.shape.specs.declared.Shape.{Shape}
-use Rattle.shape.specs.Blocks.{count, blocks}
+use Rattle.shape.specs.Blocks.{count}
 use Rattle.shape.specs.Laws.{Limits}
 use Rattle.rules.specs.declared.Call.{Call}
-use Rattle.rules.specs.Numbers.{FREEING, ALLOCATING, DIVIDING, RELEASING, WAITING, CELLS}
+use Rattle.rules.specs.Numbers.{FREEING, ALLOCATING, ASKED, FOUND, DIVIDING, RELEASING, WAITING}
 use Rattle.rules.specs.Tables.{State, stateAt, queueOf, callOf, putCall}
-use Rattle.rules.specs.Valid.{usesBlock, inHand, oneToOne, callKept, callsKept, waitersQueued, runningReady}
+use Rattle.rules.specs.Valid.{usesBlock, inHand, oneToOne, callKept, callsKept}
 use Rattle.rules.specs.Steps.{onlyCall}
-use Rattle.rules.specs.Room.{CallFacts, call-facts}
+use Rattle.rules.specs.Room.{CallFacts, call-facts, hand-inside, hand-state}
 use Rattle.calls.specs.Call.{length-putCall, callOf-putCall-other}
 use Rattle.theorems.specs.Given.{running-ready}
-use Rattle.preserve.specs.Lines.{Facts}
+use Rattle.preserve.specs.Lines.{Threads, Facts}
+use Rattle.preserve.specs.CallLines.{Asks, asks, uses-block, uses-wait}
 use Rattle.preserve.specs.OneCall.{not-in-hand, running-of, put-mine, calls-put, hands-put}
 use Rattle.preserve.specs.Queue.{Named, named, waiters-of}
 
@@ -35,31 +35,45 @@ pub record Runs (s : Shape) (T : State) (t : ℕ) (c : Call) : Type 0 where
   pub own : callOf (T .calls) t ≡ c
 
 -- a call that uses no block has none in hand at either stage
-pub empty-hand :
+empty-hand :
     (stage l b : ℕ) (c : Call) → (eqb stage DIVIDING || eqb stage RELEASING) ≡ true → usesBlock c ≡ false →
     inHand stage l b c ≡ false
 empty-hand stage l b c e n =
-    not-in-hand stage l b c
-    (λ q. true≢false (sym e ∙ ap (λ (k : ℕ). eqb k DIVIDING || eqb k RELEASING) (sym q) ∙ n))
+    not-in-hand stage l b c (λ q. true≢false (sym e ∙ sym (uses-block c stage q) ∙ n))
 
-module _ (s : Shape) (T : State) (t : ℕ) (c : Call) (g : Runs s T t c) where
+module _ {s : Shape} {T : State} {t : ℕ} {c : Call} (g : Runs s T t c) where
   -- it isn't blocked
   pub ready : c .stage ≡ WAITING → ⊥
   ready q =
-      running-ready s (T .calls) (T .device) (g .facts .lines .runningReady) t (g .running)
+      running-ready s (T .calls) (T .device) (g .facts .threads .running) t (g .running)
       (ap (λ (d : Call). d .stage) (g .own) ∙ q)
 
   pub own-facts : CallFacts s (T .device .clock) c
-  own-facts = rw (g .own) at (call-facts s (T .device .clock) (T .calls) (g .facts .lines .callsKept) t (g .thread))
+  own-facts = rw (g .own) at (call-facts s (T .device .clock) (T .calls) (g .facts .threads .kept) t (g .thread))
 
-  pub long-after : (d : Call) → length (putCall (T .calls) t d) ≡ CELLS * s .threads
-  long-after d = length-putCall (T .calls) t d ∙ g .facts .long .calls
+  -- what it asks for, where its stage uses the wait
+  pub asking : (n : ℕ) → c .stage ≡ n → (eqb n ASKED || eqb n WAITING || eqb n FOUND) ≡ true →
+      (eqb n DIVIDING || eqb n RELEASING) ≡ false → Asks s (T .device .clock) c
+  asking n e w b = asks s (T .device .clock) c own-facts (uses-wait c n e ∙ w) (uses-block c n e ∙ b)
+
+  -- its block in hand, where it has one, and the state of that
+  pub hand-placed : usesBlock c ≡ true → (c .level < s .levels) × (c .block < count s (c .level))
+  hand-placed u = hand-inside s c (own-facts .hand) u
+
+  pub hand-is :
+      (st stage : ℕ) → oneToOne st stage s (T .states) (T .calls) ≡ true → usesBlock c ≡ true → c .stage ≡ stage →
+      stateAt s (T .states) (c .level) (c .block) ≡ st
+  hand-is st stage k u e =
+      rw (g .own) at
+      (hand-state st stage s (T .states) (T .calls) k t (g .thread) (rw (g .own) e) (rw (g .own) (hand-placed u .0))
+      (rw (g .own) (hand-placed u .1)))
 
   pub calls-after :
       (d : Call) → callKept s (T .device .clock) d ≡ true → callsKept s (T .device .clock) (putCall (T .calls) t d) ≡ true
   calls-after d k =
-      calls-put s (T .calls) t d (g .facts .long .calls) (g .thread) (T .device .clock) (g .facts .lines .callsKept) k
+      calls-put s (T .calls) t d (g .facts .threads .long) (g .thread) (T .device .clock) (g .facts .threads .kept) k
 
+  -- blocks stay one to one to calls where the state and the call change together
   pub hands-after :
       (st stage : ℕ) (d : Call) (after : List ℕ) → oneToOne st stage s (T .states) (T .calls) ≡ true →
       ((l b : ℕ) → l < s .levels → b < count s l →
@@ -67,36 +81,60 @@ module _ (s : Shape) (T : State) (t : ℕ) (c : Call) (g : Runs s T t c) where
       ≡ bit (eqb (stateAt s (T .states) l b) st) + bit (inHand stage l b d)) →
       oneToOne st stage s after (putCall (T .calls) t d) ≡ true
   hands-after st stage d after e k =
-      hands-put s (T .calls) t d (g .facts .long .calls) (g .thread) st stage (T .states) after e
-      (rw (g .own) k)
+      hands-put s (T .calls) t d (g .facts .threads .long) (g .thread) st stage (T .states) after e (rw (g .own) k)
+
+  -- and stay so where neither call has one in hand and no state changes
+  pub idle-after :
+      (st stage : ℕ) (d : Call) → (eqb stage DIVIDING || eqb stage RELEASING) ≡ true → usesBlock c ≡ false →
+      usesBlock d ≡ false → oneToOne st stage s (T .states) (T .calls) ≡ true →
+      oneToOne st stage s (T .states) (putCall (T .calls) t d) ≡ true
+  idle-after st stage d e x y k =
+      hands-after st stage d (T .states) k (λ l b i j. rw (empty-hand stage l b c e x, empty-hand stage l b d e y))
 
   -- who waits, where a list that names those who wait gains or keeps this thread
   pub named-after :
       (d : Call) (xs : List ℕ) → times t xs ≡ bit (eqb (d .stage) WAITING) →
       ((u : ℕ) → (u ≡ t → ⊥) → times u xs ≡ times u (queueOf (T .queue))) → Named s (putCall (T .calls) t d) xs
-  named-after d xs e k = record { each = λ u l. at u l (ℕ-discrete u t); others = λ u l. k u (omega (arith, g .thread)) ∙ was .others u l }
+  named-after d xs e k =
+      record {
+        each = λ u l. at u l (ℕ-discrete u t);
+        others = λ u l. k u (omega (arith, g .thread)) ∙ was .others u l;
+      }
     where
       was : Named s (T .calls) (queueOf (T .queue))
-      was = named s (T .calls) (T .queue) (g .facts .lines .waitersQueued)
+      was = named s (T .calls) (T .queue) (g .facts .threads .waiters)
 
       at : (u : ℕ) → u < s .threads → Dec (u ≡ t) → times u xs ≡ bit (eqb (callOf (putCall (T .calls) t d) u .stage) WAITING)
-      at u l (yes q) = rw (q, put-mine s (T .calls) t d (g .facts .long .calls) (g .thread)) e
+      at u l (yes q) = rw (q, put-mine s (T .calls) t d (g .facts .threads .long) (g .thread)) e
       at u l (no q) = k u q ∙ was .each u l ∙ rw (callOf-putCall-other (T .calls) t u d q)
 
-  -- nor is it in the queue
+  -- it isn't queued
   pub not-queued : times t (queueOf (T .queue)) ≡ 0
   not-queued =
-      named s (T .calls) (T .queue) (g .facts .lines .waitersQueued) .each t (g .thread) ∙ rw (g .own, ne-eqb _ _ ready)
+      named s (T .calls) (T .queue) (g .facts .threads .waiters) .each t (g .thread) ∙ rw (g .own, ne-eqb _ _ ready)
 
-  pub waiters-after : (d : Call) → (d .stage ≡ WAITING → ⊥) → waitersQueued s (putCall (T .calls) t d) (T .queue) ≡ true
-  waiters-after d n =
-      waiters-of s (putCall (T .calls) t d) (T .queue)
-      (named-after d (queueOf (T .queue)) (not-queued ∙ rw (ne-eqb _ _ n)) (λ u q. refl))
-
-  pub running-after : (d : Call) → (d .stage ≡ WAITING → ⊥) → runningReady s (putCall (T .calls) t d) (T .device) ≡ true
-  running-after d n =
-      running-of s (putCall (T .calls) t d) (T .device) t (g .running) (g .thread)
-      (λ q. n (ap (λ (k : Call). k .stage) (sym (put-mine s (T .calls) t d (g .facts .long .calls) (g .thread))) ∙ q))
+  -- it goes on running with another call; the states may change with the call
+  pub threads-after :
+      (d : Call) (after : List ℕ) → (d .stage ≡ WAITING → ⊥) → callKept s (T .device .clock) d ≡ true →
+      oneToOne ALLOCATING DIVIDING s after (putCall (T .calls) t d) ≡ true →
+      oneToOne FREEING RELEASING s after (putCall (T .calls) t d) ≡ true →
+      Threads s after (putCall (T .calls) t d) (T .queue) (T .device)
+  threads-after d after n k x y =
+      record {
+        long = length-putCall (T .calls) t d ∙ g .facts .threads .long;
+        queueLong = g .facts .threads .queueLong;
+        kept = calls-after d k;
+        allocating = x;
+        freeing = y;
+        ends = g .facts .threads .ends;
+        waiters =
+            waiters-of s (putCall (T .calls) t d) (T .queue)
+            (named-after d (queueOf (T .queue)) (not-queued ∙ rw (ne-eqb _ _ n)) (λ u q. refl));
+        running =
+            running-of s (putCall (T .calls) t d) (T .device) t (g .running) (g .thread)
+            (λ q.
+            n (ap (λ (k : Call). k .stage) (sym (put-mine s (T .calls) t d (g .facts .threads .long) (g .thread))) ∙ q));
+      }
 
   -- the step changes this call and nothing else, and neither call has a block in hand
   pub only-call :
@@ -104,33 +142,8 @@ module _ (s : Shape) (T : State) (t : ℕ) (c : Call) (g : Runs s T t c) where
       callKept s (T .device .clock) d ≡ true → Facts s (onlyCall T t d)
   only-call d x y n k =
       record {
-        long =
-            record {
-              states = g .facts .long .states;
-              owners = g .facts .long .owners;
-              lists = g .facts .long .lists;
-              calls = long-after d;
-              queue = g .facts .long .queue;
-            };
-        lines =
-            record {
-              statesKnown = g .facts .lines .statesKnown;
-              ownersKnown = g .facts .lines .ownersKnown;
-              topsExist = g .facts .lines .topsExist;
-              partsExist = g .facts .lines .partsExist;
-              deepestWhole = g .facts .lines .deepestWhole;
-              buddiesMerged = g .facts .lines .buddiesMerged;
-              listEnds = g .facts .lines .listEnds;
-              freeListed = g .facts .lines .freeListed;
-              callsKept = calls-after d k;
-              allocating =
-                  hands-after ALLOCATING DIVIDING d (T .states) (g .facts .lines .allocating)
-                  (λ l b i j. rw (empty-hand DIVIDING l b c refl x, empty-hand DIVIDING l b d refl y));
-              freeing =
-                  hands-after FREEING RELEASING d (T .states) (g .facts .lines .freeing)
-                  (λ l b i j. rw (empty-hand RELEASING l b c refl x, empty-hand RELEASING l b d refl y));
-              queueEnds = g .facts .lines .queueEnds;
-              waitersQueued = waiters-after d n;
-              runningReady = running-after d n;
-            };
+        pool = g .facts .pool;
+        threads =
+            threads-after d (T .states) n k (idle-after ALLOCATING DIVIDING d refl x y (g .facts .threads .allocating))
+            (idle-after FREEING RELEASING d refl x y (g .facts .threads .freeing));
       }

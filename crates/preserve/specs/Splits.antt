@@ -1,19 +1,20 @@
 -- Split: the block in hand becomes DIVIDED, its first part is in hand, and the others are FREE and listed; the tables stay kept.
 -- Assumes nothing.
 use mathlib.Core.Path.{_≡_, refl, sym, _∙_, ap}
-use mathlib.Core.Bool.{Bool, true, false, not, _&&_, _||_}
+use mathlib.Core.Bool.{Bool, true, false, not}
 use mathlib.Core.Logic.{_⊎_, inl, inr}
 use mathlib.Core.List.{List, _∷_, _++_}
 use Prim.Native.Nat.{ℕ, zero, suc, _+_, _*_, _-_, _/_, _≤_, _<_}
 use native.Mathlib.Nat.{mul-div-right}
 use native.Mathlib.Decide.{decLt}
 use native.Mathlib.Omega.{arith}
-use lib.ListN.{length, getD, replicate, length-replicate, getD-replicate}
+use lib.ListN.{getD, replicate, length-replicate, getD-replicate}
 use lib.Dec.{leb, ltb, eqb}
 use borrow.Author.Tests.{ltb-true, leb-true}
 use Rattle.laws.specs.Tests.{bit, every-not}
 use Rattle.laws.specs.Lists.{times, upFrom}
 use Rattle.laws.specs.Times.{times-append}
+use Rattle.laws.specs.Changes.{times-among, times-outside, part-of}
 use Rattle.shape.specs.declared.Shape.{Shape}
 use Rattle.shape.specs.Limits.{parts}
 use Rattle.shape.specs.Blocks.{count, place, levelFor}
@@ -21,116 +22,98 @@ use Rattle.shape.specs.Laws.{parts-pos, levelFor-inside}
 use Rattle.shape.specs.Sections.{part-inside}
 use Rattle.rules.specs.declared.Call.{Call}
 use Rattle.rules.specs.Numbers.{ALLOCATED, FREE, DIVIDED, NOEXIST, FREEING, ALLOCATING, DIVIDING, RELEASING}
-use Rattle.rules.specs.Tables.{State, stateAt, freeList, putList, putCall}
-use Rattle.rules.specs.Valid.{usesBlock, inHand, oneToOne, listEnds, freeListed, sizeKept}
+use Rattle.rules.specs.Tables.{State, stateAt, freeList}
+use Rattle.rules.specs.Valid.{usesBlock, inHand, sizeKept}
 use Rattle.rules.specs.Steps.{holding, splitStep}
 use Rattle.rules.specs.Room.{parts-none}
-use Rattle.rules.specs.ListLaws.{length-putList}
 use Rattle.preserve.specs.Lines.{Facts}
-use Rattle.preserve.specs.Changes.{times-among, times-outside, part-of}
-use Rattle.preserve.specs.CallLines.{dividing-kept}
-use Rattle.preserve.specs.FreeLists.{Lists, listed}
-use Rattle.preserve.specs.OneCall.{not-in-hand}
-use Rattle.preserve.specs.Owns.{hand-placed, hand-is}
-use Rattle.preserve.specs.Runs.{Runs, own-facts, hands-after}
-use Rattle.preserve.specs.Family.{Elsewhere, family, family-alike}
-use Rattle.preserve.specs.FamilyKept.{hand-there, hand-elsewhere, Change, hands-family, family-kept}
-use Rattle.preserve.specs.FamilyLists.{Relists, lists-family}
+use Rattle.preserve.specs.CallLines.{uses-block, dividing-kept}
+use Rattle.preserve.specs.OneCall.{not-in-hand, hand-there, hand-elsewhere}
+use Rattle.preserve.specs.FreeLists.{Lists, listing, listed-at}
+use Rattle.preserve.specs.Runs.{Runs, own-facts, hand-placed, hand-is, hands-after}
+use Rattle.preserve.specs.Family.{Family, family, family-alike}
+use Rattle.preserve.specs.FamilyLists.{Relists, listing-family}
+use Rattle.preserve.specs.FamilyKept.{HandsPassed, hands-family, family-kept}
 
 -- what the parts become: the first ALLOCATING, the others FREE
 abbrev split : Shape → List ℕ
 split s = ALLOCATING ∷ replicate (parts s - 1) FREE
 
+split-later : (s : Shape) (j : ℕ) → suc j < parts s → getD (split s) (suc j) 0 ≡ FREE
+split-later s j h = getD-replicate (parts s - 1) j FREE 0 (omega arith)
+
+-- what a test says of both it says of each
+split-test :
+    (s : Shape) (τ : ℕ → Bool) (x : Bool) → τ ALLOCATING ≡ x → τ FREE ≡ x → (j : ℕ) → j < parts s →
+    τ (getD (split s) j 0) ≡ x
+split-test s τ x e f zero h = e
+split-test s τ x e f (suc j) h = ap τ (split-later s j h) ∙ f
+
 -- the call with the first part in hand
 abbrev first : Shape → Call → Call
 first s c = holding DIVIDING (c .size) (c .level + 1) (parts s * c .block)
 
-split-later : (s : Shape) (j : ℕ) → suc j < parts s → getD (split s) (suc j) 0 ≡ FREE
-split-later s j h = getD-replicate (parts s - 1) j FREE 0 (omega arith)
-
-split-wide : (s : Shape) → length (split s) ≡ parts s
-split-wide s = omega (arith, length-replicate (parts s - 1) FREE, parts-pos s)
-
--- a test that tells both from what wasn't
-split-test :
-    (s : Shape) (τ : ℕ → Bool) (x : Bool) → τ ALLOCATING ≡ x → τ FREE ≡ x → (j : ℕ) → j < parts s → τ (getD (split s) j 0) ≡ x
-split-test s τ x e f zero h = e
-split-test s τ x e f (suc j) h = ap τ (split-later s j h) ∙ f
-
-module _ (s : Shape) (T : State) (t : ℕ) (c : Call) (g : Runs s T t c) (e : c .stage ≡ DIVIDING)
+module _ {s : Shape} {T : State} {t : ℕ} {c : Call} (g : Runs s T t c) (e : c .stage ≡ DIVIDING)
     (above : ltb (c .level) (levelFor s (c .size)) ≡ true) where
   used : usesBlock c ≡ true
-  used = ap (λ (n : ℕ). eqb n DIVIDING || eqb n RELEASING) e
-
-  block : c .block < count s (c .level)
-  block = hand-placed s T t c g used .1
+  used = uses-block c DIVIDING e
 
   target : c .level + 1 ≤ levelFor s (c .size)
   target = omega (arith, ltb-true (c .level) (levelFor s (c .size)) above)
 
-  level : c .level + 1 < s .levels
-  level = omega (arith, target, levelFor-inside s (c .size) (g .shape .levels .0))
+  parted : Family s (T .states) (c .level) (c .block) (split s)
+  parted =
+      record {
+        long = g .facts .pool .long;
+        level = omega (arith, target, levelFor-inside s (c .size) (g .shape .levels .0));
+        block = hand-placed g used .1;
+        wide = omega (arith, length-replicate (parts s - 1) FREE, parts-pos s);
+      }
 
   was : stateAt s (T .states) (c .level) (c .block) ≡ ALLOCATING
-  was = hand-is s T t c g ALLOCATING DIVIDING (g .facts .lines .allocating) used e
+  was = hand-is g ALLOCATING DIVIDING (g .facts .threads .allocating) used e
 
   none : (j : ℕ) → j < parts s → stateAt s (T .states) (c .level + 1) (parts s * c .block + j) ≡ NOEXIST
   none j h =
-      parts-none s (T .states) (g .facts .lines .partsExist) (c .level) (c .block) j level block h (λ q. omega (arith, was))
+      parts-none s (T .states) (g .facts .pool .parts) (c .level) (c .block) j (parted .level) (parted .block) h
+      (λ q. omega (arith, was))
 
   alike-split :
       (τ : ℕ → Bool) → τ DIVIDED ≡ τ ALLOCATING → τ ALLOCATING ≡ τ NOEXIST → τ FREE ≡ τ NOEXIST → (i : ℕ) →
       τ (getD (family s (T .states) (c .level) (c .block) DIVIDED (split s)) i 0) ≡ τ (getD (T .states) i 0)
   alike-split τ p q r =
-      family-alike s (T .states) (c .level) (c .block) DIVIDED (split s) (g .facts .long .states) level block (split-wide s) τ
-      (p ∙ ap τ (sym was))
+      family-alike parted DIVIDED τ (p ∙ ap τ (sym was))
       (λ j h. split-test s τ (τ NOEXIST) q r j h ∙ ap τ (sym (none j h)))
 
   -- the parts behind the first join the list
   relists :
-      Relists s T (c .level) (c .block) (split s)
+      Relists s (T .lists) (c .level) (c .block) (split s)
       (freeList s (T .lists) (c .level + 1) ++ upFrom (parts s * c .block + 1) (parts s - 1))
   relists =
       record {
         part = λ j h. times-append (parts s * c .block + j) (freeList s (T .lists) (c .level + 1)) _ ∙ part j h;
         rest = λ a h n.
             times-append a (freeList s (T .lists) (c .level + 1)) _
-            ∙ omega (
-              arith,
-              times-outside a (parts s * c .block + 1) (parts s - 1)
-                  (apart a n (decLt a (parts s * c .block + 1)) (decLt a (parts s * c .block + parts s))),
-            );
+            ∙ omega (arith, outside a (apart a n (decLt a (parts s * c .block + 1)) (decLt a (parts s * c .block + parts s))));
         others = λ a h.
             times-append a (freeList s (T .lists) (c .level + 1)) _
-            ∙ omega (
-              arith,
-              here .others a h,
-              times-outside a (parts s * c .block + 1) (parts s - 1)
-                  (inr (omega (arith, parts-pos s, part-inside s (c .level) (c .block) (parts s - 1) block (omega (arith, parts-pos s))))),
-            );
+            ∙ omega (arith, here .others a h, outside a (inr (behind a h)));
       }
     where
       here : Lists s (T .states) (c .level + 1) (freeList s (T .lists) (c .level + 1))
-      here = listed s (T .states) (T .lists) (g .facts .lines .freeListed) (c .level + 1) level
+      here = listed-at (listing (g .facts .pool)) (c .level + 1) (parted .level)
 
-      unlisted : (j : ℕ) → j < parts s → times (parts s * c .block + j) (freeList s (T .lists) (c .level + 1)) ≡ 0
-      unlisted j h =
-          here .each (parts s * c .block + j) (part-inside s (c .level) (c .block) j block h)
-          ∙ ap (λ (x : ℕ). bit (eqb x FREE)) (none j h)
+      outside :
+          (a : ℕ) → (a < parts s * c .block + 1) ⊎ (parts s * c .block + 1 + (parts s - 1) ≤ a) →
+          times a (upFrom (parts s * c .block + 1) (parts s - 1)) ≡ 0
+      outside a w = times-outside a (parts s * c .block + 1) (parts s - 1) w
 
-      part :
-          (j : ℕ) → j < parts s →
-          times (parts s * c .block + j) (freeList s (T .lists) (c .level + 1))
-          + times (parts s * c .block + j) (upFrom (parts s * c .block + 1) (parts s - 1))
-          ≡ bit (eqb (getD (split s) j 0) FREE)
-      part zero h =
-          omega (arith, unlisted 0 h, times-outside (parts s * c .block + 0) (parts s * c .block + 1) (parts s - 1) (inl (omega arith)))
-      part (suc j) h =
+      behind : (a : ℕ) → count s (c .level + 1) ≤ a → parts s * c .block + 1 + (parts s - 1) ≤ a
+      behind a h =
           omega (
             arith,
-            unlisted (suc j) h,
-            times-among (parts s * c .block + suc j) (parts s * c .block + 1) (parts s - 1) (omega arith) (omega arith),
-            ap (λ (x : ℕ). bit (eqb x FREE)) (split-later s j h),
+            parts-pos s,
+            part-inside s (c .level) (c .block) (parts s - 1) (parted .block) (omega (arith, parts-pos s)),
           )
 
       apart :
@@ -141,57 +124,84 @@ module _ (s : Shape) (T : State) (t : ℕ) (c : Call) (g : Runs s T t c) (e : c 
       apart a n (no p) (yes q) =
           let w : a ≡ parts s * c .block + (a - parts s * c .block) = omega arith in
           absurd
-          (n
-          (ap (λ (x : ℕ). x / parts s) w ∙ part-of (parts s) (c .block) (a - parts s * c .block) (omega arith)))
+          (n (ap (λ (x : ℕ). x / parts s) w ∙ part-of (parts s) (c .block) (a - parts s * c .block) (omega arith)))
 
-  in-hand : oneToOne ALLOCATING DIVIDING s (family s (T .states) (c .level) (c .block) DIVIDED (split s)) (putCall (T .calls) t (first s c)) ≡ true
-  in-hand =
-      hands-family s T t c g (first s c) (c .level) (c .block) DIVIDED (split s) level block (split-wide s) ALLOCATING DIVIDING
-      (g .facts .lines .allocating)
-      (rw (was, hand-there DIVIDING (c .level) (c .block) c e refl refl, hand-elsewhere DIVIDING (c .level) (c .block) (first s c) (λ p q. omega arith)))
-      (λ j h. rw (none j h, hand-elsewhere DIVIDING (c .level + 1) (parts s * c .block + j) c (λ p q. omega arith)) (part j h))
-      (λ m a d.
-      hand-elsewhere DIVIDING m a c (λ p q. d .0 (sym p) (sym q))
-      ∙ sym (hand-elsewhere DIVIDING m a (first s c) (λ p q. d .1 (sym p) (ap (λ (x : ℕ). x / parts s) (sym q) ∙ mul-div-right (c .block) (parts-pos s)))))
+      unlisted : (j : ℕ) → j < parts s → times (parts s * c .block + j) (freeList s (T .lists) (c .level + 1)) ≡ 0
+      unlisted j h =
+          here .each (parts s * c .block + j) (part-inside s (c .level) (c .block) j (parted .block) h)
+          ∙ ap (λ (x : ℕ). bit (eqb x FREE)) (none j h)
+
+      part :
+          (j : ℕ) → j < parts s →
+          times (parts s * c .block + j) (freeList s (T .lists) (c .level + 1))
+          + times (parts s * c .block + j) (upFrom (parts s * c .block + 1) (parts s - 1))
+          ≡ bit (eqb (getD (split s) j 0) FREE)
+      part zero h = omega (arith, unlisted 0 h, outside (parts s * c .block + 0) (inl (omega arith)))
+      part (suc j) h =
+          omega (
+            arith,
+            unlisted (suc j) h,
+            times-among (parts s * c .block + suc j) (parts s * c .block + 1) (parts s - 1) (omega arith) (omega arith),
+            ap (λ (x : ℕ). bit (eqb x FREE)) (split-later s j h),
+          )
+
+  -- the block leaves the hand, and its first part comes into it
+  passed : HandsPassed s (T .states) (c .level) (c .block) DIVIDED (split s) c (first s c) ALLOCATING DIVIDING
+  passed =
+      record {
+        here =
+            rw (
+              was,
+              hand-there DIVIDING (c .level) (c .block) c e refl refl,
+              hand-elsewhere DIVIDING (c .level) (c .block) (first s c) (λ p q. omega arith),
+            );
+        part = λ j h.
+            rw (none j h, hand-elsewhere DIVIDING (c .level + 1) (parts s * c .block + j) c (λ p q. omega arith)) (part j h);
+        rest = λ m a d.
+            hand-elsewhere DIVIDING m a c (λ p q. d .0 (sym p) (sym q))
+            ∙ sym
+            (hand-elsewhere DIVIDING m a (first s c)
+            (λ p q. d .1 (sym p) (ap (λ (x : ℕ). x / parts s) (sym q) ∙ mul-div-right (c .block) (parts-pos s))));
+      }
     where
       part :
           (j : ℕ) → j < parts s →
-          bit (eqb (getD (split s) j 0) ALLOCATING) + 0 ≡ 0 + bit (inHand DIVIDING (c .level + 1) (parts s * c .block + j) (first s c))
+          bit (eqb (getD (split s) j 0) ALLOCATING) + 0
+          ≡ 0 + bit (inHand DIVIDING (c .level + 1) (parts s * c .block + j) (first s c))
       part zero h = rw (hand-there DIVIDING (c .level + 1) (parts s * c .block + 0) (first s c) refl refl (omega arith))
       part (suc j) h =
-          rw (split-later s j h, hand-elsewhere DIVIDING (c .level + 1) (parts s * c .block + suc j) (first s c) (λ p q. omega arith))
-
-  free-hand : oneToOne FREEING RELEASING s (family s (T .states) (c .level) (c .block) DIVIDED (split s)) (putCall (T .calls) t (first s c)) ≡ true
-  free-hand =
-      hands-after s T t c g FREEING RELEASING (first s c) (family s (T .states) (c .level) (c .block) DIVIDED (split s)) (g .facts .lines .freeing)
-      (λ m a i h.
-      rw (alike-split (λ x. eqb x FREEING) refl refl refl (place s m a), not-in-hand RELEASING m a c (λ p. omega arith)))
+          rw (
+            split-later s j h,
+            hand-elsewhere DIVIDING (c .level + 1) (parts s * c .block + suc j) (first s c) (λ p q. omega arith),
+          )
 
   pub split-kept : Facts s (splitStep s T t c .after)
   unfolding splitStep sizeKept
   split-kept =
-      family-kept s T t c g (first s c) (c .level) (c .block) DIVIDED (split s) _
+      family-kept g
       (record {
-        level = level;
-        block = block;
-        wide = split-wide s;
+        parted = parted;
         known = alike-split (λ x. leb x 5) refl refl refl;
         owned = alike-split (λ x. eqb x ALLOCATED) refl refl refl;
         exists = ap (λ (x : ℕ). eqb x NOEXIST) (sym was);
-        undivided = λ j h. split-test s (λ x. eqb x DIVIDED) false refl refl j h ∙ ap (λ (x : ℕ). eqb x DIVIDED) (sym (none j h));
+        undivided = λ j h.
+            split-test s (λ x. eqb x DIVIDED) false refl refl j h ∙ ap (λ (x : ℕ). eqb x DIVIDED) (sym (none j h));
         made = split-test s (λ x. not (eqb x NOEXIST)) true refl refl;
-        unfree = refl;
+        free = ap (λ (x : ℕ). eqb x FREE) (sym was);
         unmerged = every-not (parts s) _ 0 (parts-pos s) refl;
-        long = length-putList s (T .lists) (c .level + 1) _ ∙ g .facts .long .lists;
-        ends = lists .0;
-        listed = lists .1;
-        allocating = in-hand;
-        freeing = free-hand;
+        listing = listing-family parted DIVIDED (listing (g .facts .pool)) relists (ap (λ (x : ℕ). eqb x FREE) (sym was));
+        allocating = hands-family g parted passed (g .facts .threads .allocating);
+        freeing =
+            hands-after g FREEING RELEASING (first s c) _ (g .facts .threads .freeing)
+            (λ m a i h.
+            rw (
+              alike-split (λ x. eqb x FREEING) refl refl refl (place s m a),
+              not-in-hand RELEASING m a c (λ p. omega arith),
+            ));
         ready = λ n. omega arith;
-        kept = dividing-kept s (T .device .clock) (c .size) (c .level + 1) (parts s * c .block) level (omega (arith, part-inside s (c .level) (c .block) 0 block (parts-pos s))) target (leb-true _ _ (own-facts s T t c g .size));
+        kept =
+            dividing-kept s (T .device .clock) (c .size) (c .level + 1) (parts s * c .block) (parted .level)
+            (omega (arith, part-inside s (c .level) (c .block) 0 (parted .block) (parts-pos s)))
+            target
+            (leb-true _ _ (own-facts g .size));
       })
-    where
-      lists :
-          (listEnds s (putList s (T .lists) (c .level + 1) (freeList s (T .lists) (c .level + 1) ++ upFrom (parts s * c .block + 1) (parts s - 1))) ≡ true)
-          × (freeListed s (family s (T .states) (c .level) (c .block) DIVIDED (split s)) (putList s (T .lists) (c .level + 1) (freeList s (T .lists) (c .level + 1) ++ upFrom (parts s * c .block + 1) (parts s - 1))) ≡ true)
-      lists = lists-family s T (g .facts) (c .level) (c .block) DIVIDED (split s) level block (split-wide s) _ relists (ap (λ (x : ℕ). eqb x FREE) (sym was))

@@ -1,33 +1,23 @@
 -- The lines on states where a table of states changes: each line looks at states through a few tests, and stays where those do.
 -- Assumes nothing.
-use mathlib.Core.Path.{_≡_, refl, sym, _∙_, ap, ap₂}
-use mathlib.Core.Bool.{Bool, true, false, not, _&&_, _||_, Bool·beq}
+use mathlib.Core.Path.{_≡_, _∙_, ap, ap₂}
+use mathlib.Core.Bool.{Bool, true, not, _&&_, Bool·beq}
 use mathlib.Core.List.{List}
-use Prim.Native.Nat.{ℕ, _+_, _*_, _-_, _≤_, _<_}
-use native.Mathlib.Omega.{arith}
-use lib.ListN.{length, getD, set}
+use Prim.Native.Nat.{ℕ, _+_, _*_, _-_}
+use lib.ListN.{getD}
 use lib.Dec.{leb, eqb}
 use borrow.Author.Tests.{not-true}
-use Rattle.laws.specs.Tests.{bit, every, every-at, every-of, every-same, both-of}
+use Rattle.laws.specs.Tests.{every-at, every-of, every-same}
 use Rattle.shape.specs.declared.Shape.{Shape}
 use Rattle.shape.specs.Limits.{parts}
 use Rattle.shape.specs.Blocks.{count, place, blocks}
 use Rattle.rules.specs.Numbers.{ALLOCATED, FREE, DIVIDED, NOEXIST}
-use Rattle.rules.specs.Tables.{stateAt}
 use Rattle.rules.specs.Valid.{statesKnown, ownersKnown, topsExist, partsExist, deepestWhole, buddiesMerged}
-use Rattle.preserve.specs.Changes.{every-less}
+use Rattle.laws.specs.Changes.{every-less}
 
 -- a test tells nothing of the two tables apart
 abbrev pub Alike : (ℕ → Bool) → List ℕ → List ℕ → Type 0
 Alike τ before after = (i : ℕ) → τ (getD after i 0) ≡ τ (getD before i 0)
-
--- what the lines on states say of one table, by the tests that they use
-pub record Tree (s : Shape) (states : List ℕ) : Type 0 where
-  pub known : statesKnown s states ≡ true
-  pub tops : topsExist s states ≡ true
-  pub parts : partsExist s states ≡ true
-  pub deepest : deepestWhole s states ≡ true
-  pub merged : buddiesMerged s states ≡ true
 
 module _ (s : Shape) (before after : List ℕ) where
   pub known-alike : Alike (λ x. leb x 5) before after → statesKnown s before ≡ true → statesKnown s after ≡ true

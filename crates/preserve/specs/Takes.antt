@@ -1,68 +1,58 @@
 -- Found: the first block of the level's list is taken, or the call is asked again; the tables stay kept.
 -- Assumes nothing.
-use mathlib.Core.Path.{_≡_, refl, sym, _∙_, ap}
-use mathlib.Core.Bool.{Bool, true, false, not, _&&_, _||_}
+use mathlib.Core.Path.{_≡_, refl, ap}
 use mathlib.Core.List.{List, [], _∷_}
-use Prim.Native.Nat.{ℕ, _+_, _≤_, _<_}
+use Prim.Native.Nat.{ℕ, _≤_, _<_}
 use native.Mathlib.Decide.{decLt}
 use native.Mathlib.Omega.{arith}
-use lib.ListN.{length, set}
-use lib.Dec.{leb, eqb}
+use lib.Dec.{eqb}
 use borrow.Author.Tests.{leb-true, eq-eqb}
 use Rattle.laws.specs.Tests.{bit}
-use Rattle.laws.specs.Lists.{times}
+use Rattle.laws.specs.Changes.{implied, times-cons}
 use Rattle.shape.specs.declared.Shape.{Shape}
 use Rattle.shape.specs.Blocks.{count, place, levelFor}
 use Rattle.rules.specs.declared.Call.{Call}
-use Rattle.rules.specs.Numbers.{ALLOCATED, FREE, ALLOCATING, ASKED, FOUND, DIVIDING, RELEASING, WAITING}
-use Rattle.rules.specs.Tables.{State, stateAt, freeList, putList}
-use Rattle.rules.specs.Valid.{usesBlock, foundKept, sizeKept}
-use Rattle.rules.specs.Steps.{Outcome, holding, moved, takeFrom, takeStep}
+use Rattle.rules.specs.Numbers.{ALLOCATED, FREE, ALLOCATING, ASKED, FOUND, DIVIDING, RELEASING}
+use Rattle.rules.specs.Tables.{State, freeList, putList}
+use Rattle.rules.specs.Valid.{foundKept}
+use Rattle.rules.specs.Steps.{holding, moved, takeFrom, takeStep}
 use Rattle.rules.specs.Room.{found-inside}
-use Rattle.rules.specs.ListLaws.{length-putList}
 use Rattle.theorems.specs.Given.{listed-free}
 use Rattle.preserve.specs.Lines.{Facts}
-use Rattle.preserve.specs.Changes.{times-cons, implied}
-use Rattle.preserve.specs.CallLines.{Asks, asks, asked-kept, dividing-kept}
+use Rattle.preserve.specs.CallLines.{uses-block, asked-kept, dividing-kept}
 use Rattle.preserve.specs.States.{merged-less, owners-alike}
-use Rattle.preserve.specs.FreeLists.{Lists, listed, ends-put, listed-put}
-use Rattle.preserve.specs.OneState.{level-eqb, alike-one, count-one, less-one, other-level}
-use Rattle.preserve.specs.Runs.{Runs, own-facts, only-call}
-use Rattle.preserve.specs.Turns.{held, unheld, Turn, turned}
+use Rattle.preserve.specs.FreeLists.{Lists, listing, listed-at, listing-put}
+use Rattle.preserve.specs.OneState.{Stands, turn, level-eqb, alike-turn, count-turn, less-turn, other-level}
+use Rattle.preserve.specs.Runs.{Runs, own-facts, asking, only-call}
+use Rattle.preserve.specs.Turns.{held, none-held, Turn, turned}
 
-module _ (s : Shape) (T : State) (t : ℕ) (c : Call) (g : Runs s T t c) (e : c .stage ≡ FOUND) where
-  idle : usesBlock c ≡ false
-  idle = ap (λ (n : ℕ). eqb n DIVIDING || eqb n RELEASING) e
-
-  asking : Asks s (T .device .clock) c
-  asking =
-      asks s (T .device .clock) c (own-facts s T t c g)
-      (ap (λ (n : ℕ). eqb n ASKED || eqb n WAITING || eqb n FOUND) e)
-      idle
-
+module _ {s : Shape} {T : State} {t : ℕ} {c : Call} (g : Runs s T t c) (e : c .stage ≡ FOUND) where
   level : c .level < s .levels
-  level = found-inside s c (g .shape .levels .0) (own-facts s T t c g .found) e
+  level = found-inside s c (g .shape .levels .0) (own-facts g .found) e
 
   target : c .level ≤ levelFor s (c .size)
   unfolding foundKept
-  target = leb-true _ _ (implied (eqb (c .stage) FOUND) _ (own-facts s T t c g .found) (eq-eqb _ _ e))
+  target = leb-true _ _ (implied (eqb (c .stage) FOUND) _ (own-facts g .found) (eq-eqb _ _ e))
 
   module _ (b : ℕ) (bs : List ℕ) (q : freeList s (T .lists) (c .level) ≡ b ∷ bs) where
     here : Lists s (T .states) (c .level) (b ∷ bs)
-    here = rw q at (listed s (T .states) (T .lists) (g .facts .lines .freeListed) (c .level) level)
+    here = rw q at (listed-at (listing (g .facts .pool)) (c .level) level)
 
-    block : b < count s (c .level)
-    block = go (decLt b (count s (c .level)))
+    first : Stands s (T .states) (c .level) b FREE
+    first =
+        record {
+          long = g .facts .pool .long;
+          level = level;
+          block = inside (decLt b (count s (c .level)));
+          was = listed-free s (T .states) (T .lists) (g .facts .pool .listed) (c .level) b bs level q;
+        }
       where
-        go : Dec (b < count s (c .level)) → b < count s (c .level)
-        go (yes h) = h
-        go (no h) = absurd (omega (arith, here .others b (omega arith), times-cons b b bs, ap bit (eq-eqb b b refl)))
-
-    was : stateAt s (T .states) (c .level) b ≡ FREE
-    was = listed-free s (T .states) (T .lists) (g .facts .lines .freeListed) (c .level) b bs level q
+        inside : Dec (b < count s (c .level)) → b < count s (c .level)
+        inside (yes h) = h
+        inside (no h) = absurd (omega (arith, here .others b (omega arith), times-cons b b bs, ap bit (eq-eqb b b refl)))
 
     -- the rest of the list names the blocks that are still FREE
-    rest : Lists s (set (T .states) (place s (c .level) b) ALLOCATING) (c .level) bs
+    rest : Lists s (turn s (T .states) (c .level) b ALLOCATING) (c .level) bs
     rest =
         record {
           each = λ a h.
@@ -70,9 +60,7 @@ module _ (s : Shape) (T : State) (t : ℕ) (c : Call) (g : Runs s T t c) (e : c 
                 arith,
                 here .each a h,
                 times-cons a b bs,
-                count-one s (T .states) (c .level) b FREE ALLOCATING (g .facts .long .states) level block was
-                    (λ n. eqb n FREE)
-                    (place s (c .level) a),
+                count-turn first ALLOCATING (λ n. eqb n FREE) (place s (c .level) a),
                 ap bit (level-eqb s (c .level) a b),
               );
           others = λ a h. omega (arith, here .others a h, times-cons a b bs);
@@ -83,29 +71,26 @@ module _ (s : Shape) (T : State) (t : ℕ) (c : Call) (g : Runs s T t c) (e : c 
         (putList s (T .lists) (c .level) bs)
     taken =
         record {
-          level = level;
-          block = block;
-          was = was;
+          stands = first;
           known = refl;
           exists = refl;
           undivided = refl;
-          merged = merged-less s (T .states) _ (less-one s (T .states) (c .level) b FREE ALLOCATING (g .facts .long .states) level block was refl) (g .facts .lines .buddiesMerged);
-          owned = (
-            g .facts .long .owners,
-            owners-alike s (T .states) _ (T .owners)
-                (alike-one s (T .states) (c .level) b FREE ALLOCATING (g .facts .long .states) level block was (λ n. eqb n ALLOCATED) refl)
-                (g .facts .lines .ownersKnown),
-          );
-          long = length-putList s (T .lists) (c .level) bs ∙ g .facts .long .lists;
-          ends = ends-put s (T .states) _ (T .lists) (c .level) bs (g .facts .long .lists) level rest (g .facts .lines .listEnds);
-          listed = listed-put s (T .states) _ (T .lists) (c .level) bs (g .facts .long .lists) level rest (g .facts .lines .listEnds) (g .facts .lines .freeListed)
-              (λ m a d i h. ap (λ (n : ℕ). eqb n FREE) (other-level s (T .states) (c .level) b FREE ALLOCATING (g .facts .long .states) level block was m a d h));
-          from = unheld s _ c (λ n. omega arith) (λ n. omega arith);
-          to = held s (holding DIVIDING (c .size) (c .level) b) block;
+          merged = merged-less s (T .states) _ (less-turn first ALLOCATING refl) (g .facts .pool .merged);
+          ownersLong = g .facts .pool .ownersLong;
+          owned =
+              owners-alike s (T .states) _ (T .owners) (alike-turn first ALLOCATING (λ n. eqb n ALLOCATED) refl)
+              (g .facts .pool .owned);
+          listing =
+              listing-put (listing (g .facts .pool)) level rest
+              (λ m a d i h. ap (λ (n : ℕ). eqb n FREE) (other-level first ALLOCATING m a d h));
+          from = none-held s (place s (c .level) b) c (λ n. omega arith) (λ n. omega arith);
+          to = held s (holding DIVIDING (c .size) (c .level) b) (first .block);
           dividing = (ap (λ (n : ℕ). eqb n DIVIDING) e, refl);
           releasing = (ap (λ (n : ℕ). eqb n RELEASING) e, refl);
           ready = λ n. omega arith;
-          kept = dividing-kept s (T .device .clock) (c .size) (c .level) b level block target (asking .size);
+          kept =
+              dividing-kept s (T .device .clock) (c .size) (c .level) b level (first .block) target
+              (asking g FOUND e refl refl .size);
         }
 
   pub take-kept : Facts s (takeStep s T t c .after)
@@ -114,8 +99,6 @@ module _ (s : Shape) (T : State) (t : ℕ) (c : Call) (g : Runs s T t c) (e : c 
     where
       at : (bs : List ℕ) → freeList s (T .lists) (c .level) ≡ bs → Facts s (takeFrom s T t c bs .after)
       at [] q =
-          only-call s T t c g (moved c ASKED 0) idle refl (λ n. omega arith) (asked-kept s (T .device .clock) c asking)
-      at (b ∷ bs) q =
-          turned s T t c g (holding DIVIDING (c .size) (c .level) b) (c .level) b FREE ALLOCATING (T .owners)
-          (putList s (T .lists) (c .level) bs)
-          (taken b bs q)
+          only-call g (moved c ASKED 0) (uses-block c FOUND e) refl (λ n. omega arith)
+          (asked-kept s (T .device .clock) c (asking g FOUND e refl refl))
+      at (b ∷ bs) q = turned g (taken b bs q)

@@ -1,45 +1,57 @@
--- A block that stays undivided and existing turns from one state to another, and the running thread's call with it: the tables stay kept.
+-- A block turns from one state to another and stays undivided, and the running thread's call turns with it: the tables stay kept.
 -- Assumes nothing.
-use mathlib.Core.Path.{_≡_}
-use mathlib.Core.Bool.{true, false}
+use mathlib.Core.Path.{_≡_, refl, _∙_, ap}
+use mathlib.Core.Bool.{Bool, true, false, _&&_}
 use mathlib.Core.List.{List}
-use Prim.Native.Nat.{ℕ, _+_, _<_}
-use lib.ListN.{length, set}
+use Prim.Native.Nat.{ℕ, _<_}
+use lib.ListN.{length}
 use lib.Dec.{leb, eqb}
 use borrow.Author.Tests.{ne-eqb}
 use Rattle.shape.specs.declared.Shape.{Shape}
 use Rattle.shape.specs.Blocks.{count, place, blocks}
 use Rattle.rules.specs.declared.Call.{Call}
 use Rattle.rules.specs.Numbers.{DIVIDED, NOEXIST, FREEING, ALLOCATING, DIVIDING, RELEASING, WAITING}
-use Rattle.rules.specs.Tables.{State, state, stateAt, putCall}
-use Rattle.rules.specs.Valid.{usesBlock, ownersKnown, buddiesMerged, listEnds, freeListed, callKept}
+use Rattle.rules.specs.Tables.{State, state, putCall}
+use Rattle.rules.specs.Valid.{usesBlock, inHand, oneToOne, ownersKnown, buddiesMerged, callKept}
 use Rattle.preserve.specs.Lines.{Facts}
-use Rattle.preserve.specs.Runs.{Runs, long-after, calls-after, waiters-after, running-after}
-use Rattle.preserve.specs.OneState.{HandAt, hand-at, no-hand, long-one, known-one, tops-one, parts-one, deepest-one, hands-one}
+use Rattle.preserve.specs.States.{known-alike, tops-alike, parts-alike, deepest-alike}
+use Rattle.preserve.specs.FreeLists.{Listing}
+use Rattle.preserve.specs.OneState.{Stands, turn, place-eqb, long-turn, alike-turn, count-turn}
+use Rattle.preserve.specs.Runs.{Runs, hand-placed, hand-is, hands-after, threads-after}
 
--- the block in hand, if any, stands at place k
+-- the block in hand of a call at this stage, if any, stands at place k
+abbrev HandAt : Shape → ℕ → ℕ → Call → Type 0
+HandAt s stage k c = (l b : ℕ) → b < count s l → inHand stage l b c ≡ (eqb (c .stage) stage && eqb (place s l b) k)
+
+-- at either of the stages that have one
 abbrev pub Held : Shape → ℕ → Call → Type 0
 Held s k c = HandAt s DIVIDING k c × HandAt s RELEASING k c
 
 pub held : (s : Shape) (c : Call) → c .block < count s (c .level) → Held s (place s (c .level) (c .block)) c
-held s c h = (hand-at s DIVIDING c h, hand-at s RELEASING c h)
+held s c k = (at DIVIDING, at RELEASING)
+  where
+    grouped : (x y z : Bool) → ((x && y) && z) ≡ (x && (y && z))
+    grouped true y z = refl
+    grouped false y z = refl
 
-pub unheld : (s : Shape) (k : ℕ) (c : Call) → (c .stage ≡ DIVIDING → ⊥) → (c .stage ≡ RELEASING → ⊥) → Held s k c
-unheld s k c m n = (no-hand s DIVIDING k c (ne-eqb _ _ m), no-hand s RELEASING k c (ne-eqb _ _ n))
+    at : (stage : ℕ) → HandAt s stage (place s (c .level) (c .block)) c
+    at stage l b h =
+        grouped (eqb (c .stage) stage) (eqb (c .level) l) (eqb (c .block) b)
+        ∙ ap (λ (x : Bool). eqb (c .stage) stage && x) (place-eqb s l b (c .level) (c .block) h k)
 
--- the block, its two states, the call afterwards, and the lines on the tables that go with it
+pub none-held : (s : Shape) (k : ℕ) (c : Call) → (c .stage ≡ DIVIDING → ⊥) → (c .stage ≡ RELEASING → ⊥) → Held s k c
+none-held s k c m n = (λ l b h. rw (ne-eqb _ _ m), λ l b h. rw (ne-eqb _ _ n))
+
+-- the block, its two states, the call afterwards, and what is said of the tables that go with it
 pub record Turn (s : Shape) (T : State) (c d : Call) (l b x v : ℕ) (owners lists : List ℕ) : Type 0 where
-  pub level : l < s .levels
-  pub block : b < count s l
-  pub was : stateAt s (T .states) l b ≡ x
+  pub stands : Stands s (T .states) l b x
   pub known : leb v 5 ≡ leb x 5
   pub exists : eqb v NOEXIST ≡ eqb x NOEXIST
   pub undivided : eqb v DIVIDED ≡ eqb x DIVIDED
-  pub merged : buddiesMerged s (set (T .states) (place s l b) v) ≡ true
-  pub owned : (length owners ≡ blocks s) × (ownersKnown s (set (T .states) (place s l b) v) owners ≡ true)
-  pub long : length lists ≡ s .levels + blocks s
-  pub ends : listEnds s lists ≡ true
-  pub listed : freeListed s (set (T .states) (place s l b) v) lists ≡ true
+  pub merged : buddiesMerged s (turn s (T .states) l b v) ≡ true
+  pub ownersLong : length owners ≡ blocks s
+  pub owned : ownersKnown s (turn s (T .states) l b v) owners ≡ true
+  pub listing : Listing s (turn s (T .states) l b v) lists
   pub from : Held s (place s l b) c
   pub to : Held s (place s l b) d
   pub dividing : (eqb (c .stage) DIVIDING ≡ eqb x ALLOCATING) × (eqb (d .stage) DIVIDING ≡ eqb v ALLOCATING)
@@ -47,52 +59,58 @@ pub record Turn (s : Shape) (T : State) (c d : Call) (l b x v : ℕ) (owners lis
   pub ready : d .stage ≡ WAITING → ⊥
   pub kept : callKept s (T .device .clock) d ≡ true
 
-pub turned :
-    (s : Shape) (T : State) (t : ℕ) (c : Call) → Runs s T t c → (d : Call) (l b x v : ℕ) (owners lists : List ℕ) →
-    Turn s T c d l b x v owners lists →
-    Facts s (state (set (T .states) (place s l b) v) owners lists (putCall (T .calls) t d) (T .queue) (T .device))
-turned s T t c g d l b x v owners lists m =
-    record {
-      long =
-          record {
-            states = long-one s (T .states) l b x v (g .facts .long .states) (m .level) (m .block) (m .was);
-            owners = m .owned .0;
-            lists = m .long;
-            calls = long-after s T t c g d;
-            queue = g .facts .long .queue;
-          };
-      lines =
-          record {
-            statesKnown =
-                known-one s (T .states) l b x v (g .facts .long .states) (m .level) (m .block) (m .was) (m .known)
-                (g .facts .lines .statesKnown);
-            ownersKnown = m .owned .1;
-            topsExist =
-                tops-one s (T .states) l b x v (g .facts .long .states) (m .level) (m .block) (m .was) (m .exists)
-                (g .facts .lines .topsExist);
-            partsExist =
-                parts-one s (T .states) l b x v (g .facts .long .states) (m .level) (m .block) (m .was) (m .exists)
-                (m .undivided)
-                (g .facts .lines .partsExist);
-            deepestWhole =
-                deepest-one s (T .states) l b x v (g .facts .long .states) (m .level) (m .block) (m .was) (m .undivided)
-                (g .facts .lines .deepestWhole);
-            buddiesMerged = m .merged;
-            listEnds = m .ends;
-            freeListed = m .listed;
-            callsKept = calls-after s T t c g d (m .kept);
-            allocating =
-                hands-one s T t c g d l b x v ALLOCATING DIVIDING (m .level) (m .block) (m .was) (m .from .0) (m .to .0)
-                (m .dividing .0)
-                (m .dividing .1)
-                (g .facts .lines .allocating);
-            freeing =
-                hands-one s T t c g d l b x v FREEING RELEASING (m .level) (m .block) (m .was) (m .from .1) (m .to .1)
-                (m .releasing .0)
-                (m .releasing .1)
-                (g .facts .lines .freeing);
-            queueEnds = g .facts .lines .queueEnds;
-            waitersQueued = waiters-after s T t c g d (m .ready);
-            runningReady = running-after s T t c g d (m .ready);
-          };
-    }
+module _ {s : Shape} {T : State} {t : ℕ} {c : Call} (g : Runs s T t c) where
+  -- the block in hand is in the state that corresponds to the call's stage
+  pub hand-stands :
+      (st stage : ℕ) → oneToOne st stage s (T .states) (T .calls) ≡ true → usesBlock c ≡ true → c .stage ≡ stage →
+      Stands s (T .states) (c .level) (c .block) st
+  hand-stands st stage k u e =
+      record {
+        long = g .facts .pool .long;
+        level = hand-placed g u .0;
+        block = hand-placed g u .1;
+        was = hand-is g st stage k u e;
+      }
+
+  -- a state leaves or enters where a call does
+  hands-turn :
+      {l b x : ℕ} (d : Call) (v st stage : ℕ) → Stands s (T .states) l b x → HandAt s stage (place s l b) c →
+      HandAt s stage (place s l b) d →
+      (eqb (c .stage) stage ≡ eqb x st) × (eqb (d .stage) stage ≡ eqb v st) →
+      oneToOne st stage s (T .states) (T .calls) ≡ true →
+      oneToOne st stage s (turn s (T .states) l b v) (putCall (T .calls) t d) ≡ true
+  hands-turn {l} {b} {x} d v st stage h hc hd e k =
+      hands-after g st stage d (turn s (T .states) l b v) k (λ m a i j.
+      rw (hc m a j, hd m a j, e .0, e .1) (count-turn h v (λ n. eqb n st) (place s m a)))
+
+  pub turned :
+      {d : Call} {l b x v : ℕ} {owners lists : List ℕ} → Turn s T c d l b x v owners lists →
+      Facts s (state (turn s (T .states) l b v) owners lists (putCall (T .calls) t d) (T .queue) (T .device))
+  turned {d} {l} {b} {x} {v} m =
+      record {
+        pool =
+            record {
+              long = long-turn (m .stands) v;
+              ownersLong = m .ownersLong;
+              listsLong = m .listing .long;
+              known = known-alike s (T .states) _ (alike-turn (m .stands) v (λ n. leb n 5) (m .known)) (g .facts .pool .known);
+              owned = m .owned;
+              tops =
+                  tops-alike s (T .states) _ (alike-turn (m .stands) v (λ n. eqb n NOEXIST) (m .exists))
+                  (g .facts .pool .tops);
+              parts =
+                  parts-alike s (T .states) _ (alike-turn (m .stands) v (λ n. eqb n NOEXIST) (m .exists))
+                  (alike-turn (m .stands) v (λ n. eqb n DIVIDED) (m .undivided))
+                  (g .facts .pool .parts);
+              deepest =
+                  deepest-alike s (T .states) _ (alike-turn (m .stands) v (λ n. eqb n DIVIDED) (m .undivided))
+                  (g .facts .pool .deepest);
+              merged = m .merged;
+              ends = m .listing .ends;
+              listed = m .listing .listed;
+            };
+        threads =
+            threads-after g d (turn s (T .states) l b v) (m .ready) (m .kept)
+            (hands-turn d v ALLOCATING DIVIDING (m .stands) (m .from .0) (m .to .0) (m .dividing) (g .facts .threads .allocating))
+            (hands-turn d v FREEING RELEASING (m .stands) (m .from .1) (m .to .1) (m .releasing) (g .facts .threads .freeing));
+      }

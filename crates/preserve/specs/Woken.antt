@@ -1,8 +1,7 @@
 -- Threads that wake: each one's call is asked and else as it was, and the calls of all others stay.
 -- Assumes nothing.
-use mathlib.Core.Path.{_≡_, refl, sym, _∙_, ap}
-use mathlib.Core.Bool.{Bool, true, false, not, cond, _&&_, _||_, true≢false}
-use mathlib.Core.Logic.{_⊎_, inl, inr}
+use mathlib.Core.Path.{_≡_, refl, _∙_, ap}
+use mathlib.Core.Bool.{Bool, true, false, not, _&&_, _||_}
 use mathlib.Core.List.{List, [], _∷_}
 use Prim.Native.Nat.{ℕ, zero, suc, _+_, _*_, _≤_, _<_}
 use native.Mathlib.Nat.{add-zero}
@@ -17,22 +16,22 @@ use Rattle.laws.specs.Lists.{times}
 use Rattle.shape.specs.declared.Shape.{Shape}
 use Rattle.shape.specs.Time.{ticks, longest}
 use Rattle.rules.specs.declared.Call.{Call}
-use Rattle.rules.specs.Numbers.{ASKED, FOUND, DIVIDING, RELEASING, WAITING, TIMED, CELLS}
+use Rattle.rules.specs.Numbers.{ASKED, WAITING, TIMED, CELLS}
 use Rattle.rules.specs.Tables.{callOf}
-use Rattle.rules.specs.Valid.{usesWait, usesDeadline, usesLevel, usesBlock, fieldsUsed, deadlineKept, callKept}
+use Rattle.rules.specs.Valid.{usesWait, usesDeadline, deadlineKept, callKept}
 use Rattle.rules.specs.Steps.{wake}
 use Rattle.rules.specs.Room.{CallFacts}
 use Rattle.calls.specs.Call.{callOf-same}
 use Rattle.calls.specs.Wake.{wake-cell}
-use Rattle.preserve.specs.Changes.{times-cons}
-use Rattle.preserve.specs.Lines.{call-kept-of}
-use Rattle.preserve.specs.CallLines.{Asks, asks, fields, asked-kept}
+use Rattle.laws.specs.Changes.{times-cons}
+use Rattle.preserve.specs.CallLines.{Asks, asks, call-kept-of, fields, uses-block, uses-wait, asked-kept}
 
 -- the call of a thread that wakes
 abbrev pub woken : Call → Call
 woken c =
     record { stage = ASKED; size = c .size; wait = c .wait; deadline = c .deadline; level = c .level; block = c .block }
 
+-- the stage of a thread that isn't among them, and of one that is
 stage-stays : (calls ts : List ℕ) (t : ℕ) → times t ts ≡ 0 → getD (wake calls ts) (CELLS * t) 0 ≡ getD calls (CELLS * t) 0
 unfolding wake
 stage-stays calls [] t e = refl
@@ -40,7 +39,8 @@ stage-stays calls (u ∷ ts) t e = go (ℕ-discrete t u) (stage-stays (set calls
   where
     go :
         Dec (t ≡ u) →
-        (times t ts ≡ 0 → getD (wake (set calls (CELLS * u) ASKED) ts) (CELLS * t) 0 ≡ getD (set calls (CELLS * u) ASKED) (CELLS * t) 0) →
+        (times t ts ≡ 0 →
+        getD (wake (set calls (CELLS * u) ASKED) ts) (CELLS * t) 0 ≡ getD (set calls (CELLS * u) ASKED) (CELLS * t) 0) →
         getD (wake (set calls (CELLS * u) ASKED) ts) (CELLS * t) 0 ≡ getD calls (CELLS * t) 0
     go (yes q) below = absurd (omega (arith, times-cons t u ts, ap bit (eq-eqb t u q)))
     go (no q) below =
@@ -101,9 +101,7 @@ module _ (s : Shape) (clock later : ℕ) (c : Call) (f : CallFacts s clock c) (h
       }))
     where
       a : Asks s clock c
-      a =
-          asks s clock c f (ap (λ (n : ℕ). eqb n ASKED || eqb n WAITING || eqb n FOUND) e)
-          (ap (λ (n : ℕ). eqb n DIVIDING || eqb n RELEASING) e)
+      a = asks s clock c f (uses-wait c WAITING e) (uses-block c WAITING e)
 
   -- and so is any call whose deadline doesn't pass
   pub later-kept : (c .stage ≡ WAITING → c .wait ≡ TIMED → later < c .deadline) → callKept s later c ≡ true

@@ -1,4 +1,4 @@
--- What changes: how many pass where one test changes, how often a number stands in a list that grows or shrinks, and who stands in a list at all.
+-- Changes: how many pass where one test changes, how often a number stands in a list that grows or shrinks, what a store changes.
 -- Assumes nothing.
 use mathlib.Core.Path.{_≡_, refl, sym, _∙_, ap, ap₂}
 use mathlib.Core.Bool.{Bool, true, false, not, cond, _&&_, _||_, Bool·beq, false≢true}
@@ -10,10 +10,10 @@ use native.Mathlib.Decide.{decLt, ℕ-discrete}
 use native.Mathlib.Omega.{arith}
 use lib.ListN.{length, getD, set, replicate, length-replicate, getD-replicate, List·getD-eq-default}
 use lib.Seq.{sets, set-out, getD-set-same, getD-set-other}
-use lib.Dec.{leb, ltb, eqb}
-use borrow.Author.Tests.{lt-ltb, le-ltb, ltb-true, le-leb, lt-leb, eq-eqb, ne-eqb, eqb-true}
-use Rattle.laws.specs.Tests.{bit, bit-most, every, every-at, every-of, tally, tally-same}
+use lib.Dec.{ltb, eqb}
+use borrow.Author.Tests.{lt-ltb, ltb-true, eq-eqb, ne-eqb}
+use Rattle.laws.specs.Tests.{bit, every, every-at, every-of, tally, tally-same}
 use Rattle.laws.specs.Lists.{times, keep, upFrom}
 
 -- tests that agree at all numbers but one pass as often, but for that one
 pub tally-one :
@@ -22,7 +22,8 @@ pub tally-one :
 unfolding tally
 tally-one zero t f g h e = absurd (not-suc-le-zero h)
 tally-one (suc n) t f g h e =
-    go (tally-one n t f g) (eq-or-lt-of-le (le-of-suc-le-suc h)) (λ k l d. e k (lt-trans l (lt-suc-self n)) d) (e n (lt-suc-self n))
+    go (tally-one n t f g) (eq-or-lt-of-le (le-of-suc-le-suc h)) (λ k l d. e k (lt-trans l (lt-suc-self n)) d)
+    (e n (lt-suc-self n))
   where
     go :
         (t < n → ((k : ℕ) → k < n → k ≢ t → f k ≡ g k) → tally n g + bit (f t) ≡ tally n f + bit (g t)) →
@@ -95,36 +96,34 @@ all-below n xs h = every-of (length xs) _ (λ i l. lt-ltb _ _ (short i l (decLt 
     short i l (yes d) = d
     short i l (no d) = absurd (omega (arith, times-here xs i l, h (getD xs i 0) (omega arith)))
 
--- the numbers from a upward name each number among them once, and no other
+-- the numbers from a upward name no number outside them, and each of them once
+pub times-outside : (x a n : ℕ) → (x < a) ⊎ (a + n ≤ x) → times x (upFrom a n) ≡ 0
+unfolding times upFrom
+times-outside x a zero h = refl
+times-outside x a (suc n) (inl h) =
+    ap₂ _+_ (ap bit (ne-eqb x a (omega arith))) (times-outside x (suc a) n (inl (omega arith)))
+times-outside x a (suc n) (inr h) =
+    ap₂ _+_ (ap bit (ne-eqb x a (omega arith))) (times-outside x (suc a) n (inr (omega arith)))
+
 pub times-among : (x a n : ℕ) → a ≤ x → x < a + n → times x (upFrom a n) ≡ 1
 unfolding times upFrom
 times-among x a zero h k = absurd (omega arith)
 times-among x a (suc n) h k = go (times-among x (suc a) n) (ℕ-discrete x a)
   where
-    after : (a n : ℕ) → x < a → times x (upFrom a n) ≡ 0
-    after a zero l = refl
-    after a (suc n) l = ap₂ _+_ (ap bit (ne-eqb x a (omega arith))) (after (suc a) n (omega arith))
-
     go :
         (suc a ≤ x → x < suc a + n → times x (upFrom (suc a) n) ≡ 1) → Dec (x ≡ a) →
         bit (eqb x a) + times x (upFrom (suc a) n) ≡ 1
-    go below (yes q) = ap₂ _+_ (ap bit (eq-eqb x a q)) (after (suc a) n (omega arith))
+    go below (yes q) = ap₂ _+_ (ap bit (eq-eqb x a q)) (times-outside x (suc a) n (inl (omega arith)))
     go below (no q) = ap₂ _+_ (ap bit (ne-eqb x a q)) (below (omega arith) (omega arith))
 
-pub times-outside : (x a n : ℕ) → (x < a) ⊎ (a + n ≤ x) → times x (upFrom a n) ≡ 0
-unfolding times upFrom
-times-outside x a zero h = refl
-times-outside x a (suc n) (inl h) = ap₂ _+_ (ap bit (ne-eqb x a (omega arith))) (times-outside x (suc a) n (inl (omega arith)))
-times-outside x a (suc n) (inr h) = ap₂ _+_ (ap bit (ne-eqb x a (omega arith))) (times-outside x (suc a) n (inr (omega arith)))
+pub cond-zero : (b : Bool) → _≡_ {A = ℕ} (cond b 0 0) 0
+cond-zero true = refl
+cond-zero false = refl
 
 -- what is kept stands as often as it stood, and what isn't nowhere
 pub times-keep : (f : ℕ → Bool) (x : ℕ) (xs : List ℕ) → times x (keep f xs) ≡ cond (f x) (times x xs) 0
 unfolding times keep
-times-keep f x [] = none (f x)
-  where
-    none : (b : Bool) → _≡_ {A = ℕ} 0 (cond b 0 0)
-    none true = refl
-    none false = refl
+times-keep f x [] = sym (cond-zero (f x))
 times-keep f x (y ∷ ys) = go (f x) (f y) refl refl (times-keep f x ys) (ℕ-discrete x y)
   where
     go :
