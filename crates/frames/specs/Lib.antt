@@ -1,2 +1,4 @@
 pub mod Walk
 pub mod Refused
+pub mod Clock
+pub mod Others
