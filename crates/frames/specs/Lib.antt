@@ -2,3 +2,4 @@ pub mod Walk
 pub mod Refused
 pub mod Clock
 pub mod Others
+pub mod Held
