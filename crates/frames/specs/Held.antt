@@ -1,15 +1,16 @@
--- Integrity: no step of one thread changes the state or the owner of a block that another thread holds, and no two held blocks share a byte.
+-- Integrity: no step of one thread changes the state or the owner of a block that another thread holds, and no two held blocks share a
+-- byte.
 -- Assumes nothing.
 use mathlib.Core.Path.{_≡_, refl, sym, _∙_, ap, ap₂}
 use mathlib.Core.Bool.{Bool, true, false, not, _||_, Bool·beq, false≢true}
 use mathlib.Core.List.{List, [], _∷_}
-use Prim.Native.Nat.{ℕ, _+_, _*_, _-_, _/_, _≤_, _<_}
+use Prim.Native.Nat.{ℕ, _+_, _-_, _/_, _≤_, _<_}
 use native.Mathlib.Nat.{mul-le-mul-right}
 use native.Mathlib.Decide.{decLt}
 use native.Mathlib.Omega.{arith}
-use lib.ListN.{length, getD, set, List·getD-eq-default}
+use lib.ListN.{getD, set, List·getD-eq-default}
 use lib.Seq.{getD-set-other}
-use lib.Dec.{leb, eqb}
+use lib.Dec.{eqb}
 use borrow.Author.Tests.{eqb-true, ne-eqb}
 use Rattle.laws.specs.Tests.{every-at, both}
 use Rattle.shape.specs.declared.Shape.{Shape}
@@ -22,9 +23,9 @@ use Rattle.rules.specs.Numbers.{ALLOCATED, ALLOCATING, DIVIDING, RELEASING}
 use Rattle.rules.specs.Tables.{State, lengths, stateAt}
 use Rattle.rules.specs.Valid.{ownersKnown, valid}
 use Rattle.rules.specs.Steps.{Outcome, takeFrom, splitStep, grantStep, mergeStep, settleStep}
-use Rattle.rules.specs.Questions.{undivided, coverLevel}
+use Rattle.rules.specs.Questions.{coverLevel}
 use Rattle.forest.specs.Bytes.{lies-in}
-use Rattle.forest.specs.Cover.{CoverOne, cover-one}
+use Rattle.forest.specs.Cover.{cover-one}
 use Rattle.theorems.specs.History.{Step, Build, GoOn, stepOn}
 use Rattle.preserve.specs.Lines.{Facts, facts}
 use Rattle.preserve.specs.Runs.{Runs}
@@ -62,9 +63,19 @@ module _ (s : Shape) (T : State) (u k : ℕ) (w : Holds T u k) where
       taken (b ∷ bs) = λ _ _. w .1
 
       elsewhere : c .stage ≡ DIVIDING → k ≡ place s (c .level) (c .block) → ⊥
-      elsewhere d q =
-          let e : getD (T .states) (place s (c .level) (c .block)) 0 ≡ ALLOCATING = hand-is s T t c g ALLOCATING DIVIDING (g .facts .lines .allocating) (ap (λ (n : ℕ). eqb n DIVIDING || eqb n RELEASING) d) d in
-          omega (arith, sym (w .0) ∙ ap (λ (n : ℕ). getD (T .states) n 0) q ∙ e)
+      elsewhere d q = omega (arith, sym (w .0) ∙ ap (λ (n : ℕ). getD (T .states) n 0) q ∙ in-hand)
+        where
+          in-hand : stateAt s (T .states) (c .level) (c .block) ≡ ALLOCATING
+          in-hand =
+              hand-is s T t c g ALLOCATING DIVIDING (g .facts .lines .allocating)
+              (ap (λ (n : ℕ). eqb n DIVIDING || eqb n RELEASING) d)
+              d
+
+  -- the block that is given back was the giver's
+  given-other :
+      (t j : ℕ) → getD (T .owners) j 0 ≡ t + 1 → (t + 1 ≡ u + 1 → ⊥) → getD (set (T .owners) j 0) k 0 ≡ u + 1
+  given-other t j o n =
+      getD-set-other (T .owners) j k 0 0 (λ q. n (sym o ∙ ap (λ (m : ℕ). getD (T .owners) m 0) (sym q) ∙ w .1)) ∙ w .1
 
   each-owner : EachStep (OwnerStays u k) s T
   each-owner =
@@ -73,7 +84,7 @@ module _ (s : Shape) (T : State) (u k : ℕ) (w : Holds T u k) where
         builds = λ _ n. absurd (n refl);
         asks = λ t size ms _ _. w .1;
         goes = λ t g. go-on-owner t _ g;
-        gives = λ t i o n _. getD-set-other (T .owners) _ k 0 0 (λ q. n (sym o ∙ ap (λ (m : ℕ). getD (T .owners) m 0) (sym q) ∙ w .1)) ∙ w .1;
+        gives = λ t i o n _. given-other t _ o n;
         switches = λ t _ _. w .1;
         ticks = λ n f _ _. w .1;
         whole = λ _ _. w .1;
@@ -81,12 +92,14 @@ module _ (s : Shape) (T : State) (u k : ℕ) (w : Holds T u k) where
       }
 
 -- a place with an owner holds a block that is ALLOCATED
-owned-allocated : (s : Shape) (T : State) (u k : ℕ) → Facts s T → getD (T .owners) k 0 ≡ u + 1 → getD (T .states) k 0 ≡ ALLOCATED
+owned-allocated :
+    (s : Shape) (T : State) (u k : ℕ) → Facts s T → getD (T .owners) k 0 ≡ u + 1 → getD (T .states) k 0 ≡ ALLOCATED
 unfolding ownersKnown
 owned-allocated s T u k f e =
     eqb-true _ _
     (agree (eqb (getD (T .states) k 0) ALLOCATED) (eqb (getD (T .owners) k 0) 0)
-    (both (Bool·beq (eqb (getD (T .states) k 0) ALLOCATED) (not (eqb (getD (T .owners) k 0) 0))) _ (every-at (blocks s) _ (f .lines .ownersKnown) k inside) .0)
+    (both (Bool·beq (eqb (getD (T .states) k 0) ALLOCATED) (not (eqb (getD (T .owners) k 0) 0))) _
+    (every-at (blocks s) _ (f .lines .ownersKnown) k inside) .0)
     (ne-eqb (getD (T .owners) k 0) 0 (λ q. omega (arith, e, q))))
   where
     inside : k < blocks s

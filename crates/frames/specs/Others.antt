@@ -1,6 +1,6 @@
 -- Document 01, 'Calls and steps': no step of one thread changes another thread's call, save that a waiting call may become asked.
 -- Assumes nothing.
-use mathlib.Core.Path.{_≡_, refl, sym, _∙_, ap}
+use mathlib.Core.Path.{_≡_, refl, sym, ap}
 use mathlib.Core.Bool.{Bool, true, false, cond}
 use mathlib.Core.Logic.{_⊎_, inl, inr}
 use mathlib.Core.List.{List, [], _∷_}
@@ -20,7 +20,6 @@ use Rattle.calls.specs.Call.{length-putCall, callOf-putCall-other}
 use Rattle.preserve.specs.Changes.{times-keep}
 use Rattle.preserve.specs.Lines.{Facts}
 use Rattle.preserve.specs.Queue.{named}
-use Rattle.preserve.specs.Runs.{Runs}
 use Rattle.preserve.specs.Woken.{woken, wake-other, wake-own}
 use Rattle.theorems.specs.History.{Step, Build, Ask, GoOn, Give, Switch, Tick, Whole, stepOn}
 use Rattle.frames.specs.Walk.{EachGoOn, EachStep, each-step}

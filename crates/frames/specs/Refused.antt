@@ -15,7 +15,7 @@ use Rattle.rules.specs.declared.Answer.the-variants.{Refused, Opened, Found, Ag
 use Rattle.rules.specs.Tables.{State}
 use Rattle.rules.specs.Steps.{Outcome, outcome, onlyCall, closed, takeFrom, splitStep, grantStep, mergeStep, settleStep}
 use Rattle.theorems.specs.History.{Step, GoOn, stepOn}
-use Rattle.frames.specs.Walk.{closes, EachGoOn, EachStep, each-step}
+use Rattle.frames.specs.Walk.{closes, EachGoOn, each-step}
 
 -- the answer is a refusal
 abbrev refuses : Answer → Bool
@@ -42,7 +42,8 @@ same r q e = cc
 abbrev Refuses : State → Step → Outcome → Type 0
 Refuses T x o =
     ((o .after ≡ T) × ((r : Refusal) → o .answer ≡ Refused r → closes r ≡ false))
-    ⊎ (((t : ℕ) × (r : Refusal) × (x ≡ GoOn t) × (o .answer ≡ Refused r) × ((r ≡ NoRoom) ⊎ (r ≡ TimedOut)) × (o .after ≡ onlyCall T t closed))
+    ⊎ (((t : ℕ) × (r : Refusal)
+    × (x ≡ GoOn t) × (o .answer ≡ Refused r) × ((r ≡ NoRoom) ⊎ (r ≡ TimedOut)) × (o .after ≡ onlyCall T t closed))
     ⊎ (refuses (o .answer) ≡ false))
 
 stays : (T : State) (x : Step) (r : Refusal) → closes r ≡ false → Refuses T x (outcome (Refused r) T)

@@ -4,9 +4,9 @@ use mathlib.Core.Path.{_≡_, refl}
 use mathlib.Core.Bool.{Bool, true, false, not, cond, _&&_, _||_}
 use mathlib.Core.Logic.{_⊎_, inl, inr}
 use mathlib.Core.List.{List, [], _∷_, _++_}
-use Prim.Native.Nat.{ℕ, _+_, _<_}
+use Prim.Native.Nat.{ℕ, _+_}
 use lib.IntN.{ℤ}
-use lib.ListN.{length, getD, set}
+use lib.ListN.{getD, set}
 use lib.Dec.{ltb, eqb}
 use borrow.Author.Tests.{ltb-true, eqb-true, not-false}
 use Rattle.laws.specs.Lists.{keep}
@@ -90,7 +90,9 @@ pub record EachStep (P : Step → Outcome → Type 0) (s : Shape) (T : State) : 
   pub builds : P Build (outcome Built (fresh s))
   pub asks : (t size : ℕ) (ms : ℤ) → P (Ask t size ms) (outcome Opened (onlyCall T t (askedCall (T .device .clock) size (wait ms))))
   pub goes : (t : ℕ) → Runs s T t (callOf (T .calls) t) → EachGoOn (P (GoOn t)) s T t (callOf (T .calls) t)
-  pub gives : (t i : ℕ) → getD (T .owners) (place s (idLevel i) (idBlock i)) 0 ≡ t + 1 → P (Give t i) (outcome Opened (given s T t (idLevel i) (idBlock i)))
+  pub gives :
+      (t i : ℕ) → getD (T .owners) (place s (idLevel i) (idBlock i)) 0 ≡ t + 1 →
+      P (Give t i) (outcome Opened (given s T t (idLevel i) (idBlock i)))
   pub switches : (t : ℕ) → P (Switch t) (outcome Switched (onlyDevice T (T .device .clock) (t + 1)))
   pub ticks : (n : ℕ) → Facts s T → P Tick (outcome (Ticked n) (ticked s T))
   pub whole : P Whole (outcome answers.Whole T)
@@ -149,7 +151,10 @@ module _ (P : Outcome → Type 0) where
 module _ (P : Outcome → Type 0) (T : State) (stays : (r : Refusal) → closes r ≡ false → P (outcome (Refused r) T)) where
   whole-answers :
       P (outcome answers.Whole T) → P (outcome answers.NotWhole T) → (a l v w : Bool) →
-      P (outcome (cond a (Refused ShapeNotAllowed) (cond l (Refused WrongLength) (cond v (Refused NotValid) (cond w answers.Whole answers.NotWhole)))) T)
+      P
+      (outcome
+      (cond a (Refused ShapeNotAllowed) (cond l (Refused WrongLength) (cond v (Refused NotValid) (cond w answers.Whole answers.NotWhole))))
+      T)
   whole-answers y n true l v w = stays ShapeNotAllowed refl
   whole-answers y n false true v w = stays WrongLength refl
   whole-answers y n false false true w = stays NotValid refl
