@@ -1,0 +1,5 @@
+pub mod Walk
+pub mod Refused
+pub mod Clock
+pub mod Others
+pub mod Held
