@@ -1,2 +1,6 @@
 pub mod Alone
 pub mod Until
+pub mod Divides
+pub mod Takes
+pub mod Request
+pub mod Exactly
