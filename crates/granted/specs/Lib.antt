@@ -4,3 +4,4 @@ pub mod Divides
 pub mod Takes
 pub mod Request
 pub mod Exactly
+pub mod Bytes
