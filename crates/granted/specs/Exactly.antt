@@ -44,7 +44,7 @@ pub record Refusing (s : Shape) (T : State) (t size : ℕ) : Type 0 where
   pub refused : request s T t size ≡ outcome (Refused NoRoom) (onlyCall (asked T t size) t closed)
   pub ended : Ended t (request s T t size)
 
-no-grant : (o : Outcome) → o .answer ≡ Refused NoRoom → IsGranted o → ⊥
+pub no-grant : (o : Outcome) → o .answer ≡ Refused NoRoom → IsGranted o → ⊥
 no-grant o e (i, q) = let z : _≡_ {A = ℕ} 0 1 = cc in omega arith
 
 module _ (s : Shape) (T : State) (t size : ℕ) (a : Asks s T t size) where

@@ -5,3 +5,4 @@ pub mod Takes
 pub mod Request
 pub mod Exactly
 pub mod Bytes
+pub mod Took
