@@ -1,13 +1,13 @@
 -- Demand 2: the pool is called whole exactly when all its bytes are free and no thread has a call open.
 -- Assumes nothing.
-use mathlib.Core.Path.{_≡_, _∙_}
-use mathlib.Core.Bool.{true}
+use mathlib.Core.Path.{_≡_, sym, _∙_}
+use mathlib.Core.Bool.{true, false}
 use mathlib.Core.Logic.{_↔_}
 use Prim.Native.Nat.{ℕ, _<_}
 use native.Mathlib.Omega.{arith}
 use lib.Dec.{eqb}
 use borrow.Author.Tests.{eqb-true, eq-eqb}
-use Rattle.laws.specs.Tests.{every, every-at, every-of, both, both-of}
+use Rattle.laws.specs.Tests.{every, every-at, every-of, both, both-of, fails}
 use Rattle.shape.specs.declared.Shape.{Shape}
 use Rattle.shape.specs.Limits.{allowed}
 use Rattle.shape.specs.Blocks.{size, bytes}
@@ -65,3 +65,18 @@ module _ (s : Shape) (T : State) (h : allowed s ≡ true) (v : valid s T ≡ tru
           (every (s .tops) (λ b. eqb (stateAt s (T .states) 0 b) FREE) ≡ true)
           × (every (s .threads) (λ t. eqb (callOf (T .calls) t .stage) CLOSED) ≡ true)
       tests e = both _ _ e
+
+-- the accident: a thread whose call is open at any stage, holding nothing, keeps the pool from being whole
+pub open-call-not-whole :
+    (s : Shape) (T : State) (t : ℕ) → t < s .threads → (callOf (T .calls) t .stage ≡ CLOSED → ⊥) → isWhole s T ≡ false
+unfolding isWhole
+open-call-not-whole s T t h n = sym (fails (isWhole s T) closed-then)
+  where
+    closed-then : isWhole s T ≡ true → ⊥
+    closed-then e =
+        n
+        (eqb-true (callOf (T .calls) t .stage) CLOSED
+        (every-at (s .threads) (λ u. eqb (callOf (T .calls) u .stage) CLOSED)
+        (both (every (s .tops) (λ b. eqb (stateAt s (T .states) 0 b) FREE)) _ e .1)
+        t
+        h))
