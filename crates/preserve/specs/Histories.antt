@@ -85,17 +85,18 @@ pub steps-valid :
     (lengths s (stepOn s T x .after) ≡ true) × (valid s (stepOn s T x .after) ≡ true)
 steps-valid s T x a l v = kept-of s _ (steps-kept (limits s a) (facts s T (l, v)) x)
 
+-- fresh tables are valid
 pub fresh-valid : (s : Shape) → allowed s ≡ true → (lengths s (fresh s) ≡ true) × (valid s (fresh s) ≡ true)
 fresh-valid s a = kept-of s _ (fresh-kept (limits s a))
 
--- and so does a build whatever the tables held, where their lengths are right
+-- so a build of tables with the right lengths leaves them valid, whatever they held
 pub build-valid :
     (s : Shape) (T : State) → allowed s ≡ true → lengths s T ≡ true →
     (lengths s (stepOn s T Build .after) ≡ true) × (valid s (stepOn s T Build .after) ≡ true)
 unfolding stepOn build
 build-valid s T a l = rw (a, l) (fresh-valid s a)
 
--- so does a history
+-- a history leaves valid tables valid
 pub runs-valid :
     (s : Shape) (xs : List Step) → allowed s ≡ true → (T : State) → lengths s T ≡ true → valid s T ≡ true →
     (lengths s (runSteps s T xs) ≡ true) × (valid s (runSteps s T xs) ≡ true)
