@@ -3,7 +3,7 @@
 use mathlib.Core.Path.{_≡_, refl, sym, _∙_, ap}
 use mathlib.Core.Logic.{_⊎_, inl, inr, _≢_, _↔_}
 use mathlib.Core.List.{List, _∷_}
-use Prim.Native.Nat.{ℕ, zero, suc, _+_, _*_, _-_, _/_, _%_, _≤_, _<_}
+use Prim.Native.Nat.{ℕ, zero, suc, _+_, _*_, _-_, _/_, _%_, _<_}
 use native.Mathlib.Nat.{div-add-mod, mod-lt}
 use native.Mathlib.Decide.{ℕ-discrete}
 use native.Mathlib.Numerals.{add-one}
@@ -15,10 +15,10 @@ use Rattle.shape.specs.Limits.{parts}
 use Rattle.shape.specs.Blocks.{size, count, place, blocks, bytes}
 use Rattle.shape.specs.Laws.{Limits, parts-pos, place-once, place-inside}
 use Rattle.shape.specs.Offsets.{over-inside}
-use Rattle.rules.specs.Numbers.{FREE, DIVIDED, NOEXIST, ALLOCATING}
+use Rattle.rules.specs.Numbers.{FREE, DIVIDED, ALLOCATING}
 use Rattle.rules.specs.Tables.{stateAt}
 use Rattle.preserve.specs.Changes.{part-of}
-use Rattle.preserve.specs.Family.{Elsewhere, family, by-family, family-own, family-part, family-rest}
+use Rattle.preserve.specs.Family.{family, by-family, family-own, family-part, family-rest}
 use Rattle.forest.specs.Tree.{parent}
 use Rattle.forest.specs.Tables.{sizesOf}
 use Rattle.forest.specs.Bytes.{FreeByte}

@@ -4,15 +4,15 @@ use mathlib.Core.Path.{_≡_, refl, sym, _∙_, ap}
 use mathlib.Core.Bool.{Bool, true, false, cond}
 use Prim.Native.Nat.{ℕ, zero, suc, _+_, _*_, _≤_, _<_}
 use native.Mathlib.Omega.{arith}
-use lib.Dec.{ltb, eqb}
+use lib.Dec.{ltb}
 use borrow.Author.Tests.{lt-ltb, le-ltb, ltb-true, ltb-false}
 use Rattle.shape.specs.declared.Shape.{Shape}
 use Rattle.shape.specs.Limits.{parts}
 use Rattle.shape.specs.Blocks.{id, levelFor}
 use Rattle.rules.specs.declared.Call.{Call}
 use Rattle.rules.specs.declared.Answer.the-variants.{Granted}
-use Rattle.rules.specs.Numbers.{CLOSED, DIVIDING}
-use Rattle.rules.specs.Tables.{State, callOf}
+use Rattle.rules.specs.Numbers.{DIVIDING}
+use Rattle.rules.specs.Tables.{State}
 use Rattle.rules.specs.Steps.{Outcome, closed, holding, splitStep, grantStep, divideStep, goOnStep}
 use Rattle.rules.specs.Calls.{goOn}
 use Rattle.granted.specs.Alone.{Alone, goOn-running, goOn-alone}

@@ -1,10 +1,9 @@
 -- Demand 3: a request that may not wait ends within as many go-on steps as there are levels and two, and is granted exactly where a run of free
 -- bytes as long as the smallest block that fits starts at a multiple of that size. So more room never turns a yes into a no.
 -- Assumes nothing.
-use mathlib.Core.Path.{_≡_, refl, sym, _∙_, ap}
-use mathlib.Core.Bool.{true}
+use mathlib.Core.Path.{_≡_, refl, ap}
 use mathlib.Core.Logic.{_⊎_, inl, inr, _↔_, Iff·trans}
-use Prim.Native.Nat.{ℕ, _+_, _≤_, _<_}
+use Prim.Native.Nat.{ℕ, _≤_, _<_}
 use native.Mathlib.Omega.{arith}
 use Rattle.shape.specs.declared.Shape.{Shape}
 use Rattle.shape.specs.Blocks.{count, bytes, levelFor}
@@ -12,7 +11,6 @@ use Rattle.shape.specs.Laws.{limits, levelFor-inside}
 use Rattle.rules.specs.declared.Room.{Room}
 use Rattle.rules.specs.declared.Room.the-variants.{At, Nowhere}
 use Rattle.rules.specs.declared.Refusal.the-variants.{NoRoom}
-use Rattle.rules.specs.declared.Answer.{Answer}
 use Rattle.rules.specs.declared.Answer.the-variants.{Refused, Granted}
 use Rattle.rules.specs.Tables.{State}
 use Rattle.rules.specs.Steps.{Outcome, outcome, closed, onlyCall, deepest}

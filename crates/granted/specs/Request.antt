@@ -1,6 +1,6 @@
 -- A request that may not wait, from the ask to its end: it looks, and then ends without room, or takes a block and splits it until it is granted.
 -- Assumes nothing.
-use mathlib.Core.Path.{_≡_, refl, sym, _∙_, ap}
+use mathlib.Core.Path.{_≡_, sym, _∙_, ap}
 use mathlib.Core.List.{List, _∷_}
 use Prim.Native.Nat.{ℕ, suc, _+_, _*_, _≤_, _<_}
 use native.Mathlib.Numerals.{add-one}
@@ -19,7 +19,7 @@ use Rattle.rules.specs.Tables.{State, freeList, callOf}
 use Rattle.rules.specs.Steps.{Outcome, outcome, closed, onlyCall, deepest, takeFrom, splitStep}
 use Rattle.rules.specs.Calls.{goOn}
 use Rattle.forest.specs.Found.{deepest-some}
-use Rattle.granted.specs.Alone.{Alone, asking, askNow, ask-running, ask-alone}
+use Rattle.granted.specs.Alone.{Alone, asking, ask-running, ask-alone}
 use Rattle.granted.specs.Until.{Ended, until, request, until-ended, until-open}
 use Rattle.granted.specs.Divides.{dividing, Grant, divides-to-grant}
 use Rattle.granted.specs.Takes.{finding, looks-nowhere, nowhere-alone, looks-at, at-alone, takes, take-alone, first-listed}
@@ -32,9 +32,8 @@ goes-on s t n o c g h = until-open s t n o (λ e. h (sym (ap (λ (c : Call). c .
 
 -- thread t runs on valid tables, has no call open, and asks for a size up to the largest block
 pub record Asks (s : Shape) (T : State) (t size : ℕ) : Type 0 where
-  pub call : Call
-  pub alone : Alone s T t call
-  pub isClosed : call .stage ≡ CLOSED
+  pub alone : Alone s T t (callOf (T .calls) t)
+  pub isClosed : callOf (T .calls) t .stage ≡ CLOSED
   pub fits : size ≤ s .«top_size»
 
 -- the tables once it has asked, and once it has found level l
@@ -46,14 +45,14 @@ found T t size l = onlyCall (asked T t size) t (finding size l)
 
 module _ (s : Shape) (T : State) (t size : ℕ) (a : Asks s T t size) where
   asked-alone : Alone s (asked T t size) t (asking size)
-  asked-alone = ask-alone s T t (a .call) (a .alone) (a .isClosed) size (a .fits)
+  asked-alone = ask-alone s T t (callOf (T .calls) t) (a .alone) (a .isClosed) size (a .fits)
 
   -- the request opens, and its first go-on step looks
   request-looks : request s T t size ≡ until s t (s .levels + 1) (goOn s (asked T t size) t)
   unfolding request
   request-looks =
       let e : s .levels + 2 ≡ suc (s .levels + 1) = omega arith in
-      rw (e, ask-running s T t (a .call) (a .alone) (a .isClosed) size (a .fits))
+      rw (e, ask-running s T t (callOf (T .calls) t) (a .alone) (a .isClosed) size (a .fits))
       (goes-on s t (s .levels + 1) (outcome Opened (asked T t size)) (asking size) asked-alone (λ e. omega arith))
 
   -- no room at any level: it ends there, and alters its own call alone

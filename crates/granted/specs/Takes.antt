@@ -1,26 +1,23 @@
 -- A request that may not wait looks once: where there is room it finds a level and takes a block there, else it ends with no room.
 -- Assumes nothing.
 use mathlib.Core.Path.{_≡_, refl, sym, _∙_, ap}
-use mathlib.Core.Bool.{Bool, true, false}
 use mathlib.Core.List.{List, [], _∷_}
-use Prim.Native.Nat.{ℕ, _+_, _≤_, _<_}
+use Prim.Native.Nat.{ℕ, _≤_, _<_}
 use native.Mathlib.Omega.{arith}
 use lib.ListN.{length, getD}
 use Rattle.shape.specs.declared.Shape.{Shape}
-use Rattle.shape.specs.Blocks.{id, levelFor}
+use Rattle.shape.specs.Blocks.{levelFor}
 use Rattle.shape.specs.Laws.{limits, levelFor-inside}
 use Rattle.rules.specs.declared.Call.{Call}
-use Rattle.rules.specs.declared.Room.{Room}
 use Rattle.rules.specs.declared.Room.the-variants.{At, Nowhere}
 use Rattle.rules.specs.declared.Refusal.the-variants.{NoRoom}
-use Rattle.rules.specs.declared.Answer.the-variants.{Refused, Found, Taken}
+use Rattle.rules.specs.declared.Answer.the-variants.{Refused, Found}
 use Rattle.rules.specs.Numbers.{NEVER, FOUND}
-use Rattle.rules.specs.Tables.{State, freeList, callOf}
+use Rattle.rules.specs.Tables.{State, freeList}
 use Rattle.rules.specs.Facts.{valid-facts}
 use Rattle.rules.specs.Room.{length-facts, length-freeList, list-short}
 use Rattle.rules.specs.Steps.{Outcome, outcome, closed, onlyCall, deepest, noRoom, lookAt, look, takeFrom, takeStep, goOnStep}
 use Rattle.rules.specs.Calls.{goOn}
-use Rattle.forest.specs.Found.{deepest-some}
 use Rattle.granted.specs.Alone.{Alone, asking, goOn-running, goOn-alone}
 use Rattle.granted.specs.Divides.{dividing}
 

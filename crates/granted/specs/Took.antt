@@ -3,34 +3,33 @@
 -- Assumes nothing.
 use mathlib.Core.Path.{_≡_, refl, sym, _∙_, ap}
 use mathlib.Core.Bool.{true}
-use mathlib.Core.Logic.{_⊎_, inl, inr, _≢_, _↔_, Iff·trans}
+use mathlib.Core.Logic.{inl, inr, _↔_, Iff·trans}
 use mathlib.Core.List.{List, _∷_}
 use Prim.Native.Nat.{ℕ, _+_, _*_, _/_, _≤_, _<_}
 use native.Mathlib.Nat.{mul-le-mul-right}
 use native.Mathlib.Omega.{arith}
-use lib.ListN.{length, set}
+use lib.ListN.{length}
 use lib.Seq.{getD-set-same}
 use Rattle.shape.specs.declared.Shape.{Shape}
 use Rattle.shape.specs.Limits.{parts, allowed}
 use Rattle.shape.specs.Blocks.{size, count, offset, id, place, bytes, levelFor}
-use Rattle.shape.specs.Laws.{Limits, limits, levelFor-inside, place-inside}
+use Rattle.shape.specs.Laws.{limits, levelFor-inside, place-inside}
 use Rattle.shape.specs.Offsets.{size-some, count-fills}
 use Rattle.rules.specs.declared.Room.{Room}
 use Rattle.rules.specs.declared.Room.the-variants.{At, Nowhere}
 use Rattle.rules.specs.declared.Answer.the-variants.{Granted}
-use Rattle.rules.specs.Numbers.{FREE, DIVIDED, ALLOCATED, ALLOCATING, DIVIDING}
+use Rattle.rules.specs.Numbers.{ALLOCATED, ALLOCATING, DIVIDING}
 use Rattle.rules.specs.Tables.{State, stateAt, freeList}
 use Rattle.rules.specs.Valid.{valid}
 use Rattle.rules.specs.Facts.{valid-facts}
 use Rattle.rules.specs.Room.{length-facts, member-inside, parts-none}
-use Rattle.rules.specs.Questions.{undivided}
 use Rattle.rules.specs.Steps.{Outcome, deepest, takeFrom, splitStep, grantStep}
 use Rattle.theorems.specs.Given.{listed-free}
 use Rattle.preserve.specs.Lines.{facts}
 use Rattle.preserve.specs.Runs.{Runs}
 use Rattle.preserve.specs.Owns.{hand-placed, hand-is}
 use Rattle.forest.specs.Bytes.{FreeByte, FreeRun, lies-in}
-use Rattle.forest.specs.Cover.{CoverOne, cover-one}
+use Rattle.forest.specs.Cover.{cover-one}
 use Rattle.forest.specs.Found.{deepest-some}
 use Rattle.granted.specs.Alone.{Alone}
 use Rattle.granted.specs.Until.{request}
