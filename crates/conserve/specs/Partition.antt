@@ -1,19 +1,19 @@
 -- Map's blocks divide the pool: each is an undivided existing block, each begins where the last ended, and the last ends where the pool does.
 -- Assumes nothing.
-use mathlib.Core.Path.{_≡_, refl, sym, _∙_, ap, subst}
+use mathlib.Core.Path.{_≡_, refl}
 use mathlib.Core.Bool.{Bool, true, false, cond}
 use mathlib.Core.Logic.{_≢_}
 use mathlib.Core.List.{List, [], _∷_, _++_}
-use Prim.Native.Nat.{ℕ, zero, suc, _+_, _*_, _-_, _/_, _≤_, _<_}
+use Prim.Native.Nat.{ℕ, zero, suc, _+_, _*_, _-_, _<_}
 use native.Mathlib.Numerals.{add-one}
 use native.Mathlib.Omega.{arith}
 use lib.Dec.{eqb}
-use borrow.Author.Tests.{eqb-true, eqb-false, ne-eqb}
+use borrow.Author.Tests.{eqb-true, ne-eqb}
 use Rattle.laws.specs.Changes.{part-of}
 use Rattle.shape.specs.declared.Shape.{Shape}
 use Rattle.shape.specs.Limits.{parts, allowed}
 use Rattle.shape.specs.Blocks.{size, count, offset, bytes}
-use Rattle.shape.specs.Laws.{Limits, limits, size-top, count-top}
+use Rattle.shape.specs.Laws.{limits, size-top, count-top}
 use Rattle.shape.specs.Sections.{part-inside}
 use Rattle.rules.specs.Numbers.{DIVIDED, NOEXIST}
 use Rattle.rules.specs.Tables.{State, stateAt}
