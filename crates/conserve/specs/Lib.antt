@@ -1,0 +1,4 @@
+pub mod Pairs
+pub mod Partition
+pub mod Each
+pub mod Conservation
