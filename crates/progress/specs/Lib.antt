@@ -1,3 +1,4 @@
 pub mod Fits
 pub mod Waits
 pub mod Own
+pub mod Stays
