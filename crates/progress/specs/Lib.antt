@@ -2,3 +2,4 @@ pub mod Fits
 pub mod Waits
 pub mod Own
 pub mod Stays
+pub mod Ends
