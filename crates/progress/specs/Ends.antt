@@ -2,10 +2,10 @@
 -- turns as there are splits left, and a releasing call ends within one turn more than its level.
 -- Assumes nothing.
 use mathlib.Core.Path.{_≡_, refl, sym, _∙_, ap}
-use mathlib.Core.Bool.{Bool, true, false, _&&_, _||_, true≢false, false≢true}
+use mathlib.Core.Bool.{Bool, true, false, _||_, true≢false, false≢true}
 use mathlib.Core.Logic.{_⊎_, inl, inr}
 use mathlib.Core.List.{List, [], _∷_}
-use Prim.Native.Nat.{ℕ, zero, suc, _+_, _-_, _/_, _≤_, _<_}
+use Prim.Native.Nat.{ℕ, suc, _+_, _-_, _/_, _≤_, _<_}
 use native.Mathlib.Omega.{arith}
 use lib.ListN.{length, take}
 use lib.Dec.{eqb}
@@ -16,7 +16,7 @@ use Rattle.shape.specs.Limits.{parts, allowed}
 use Rattle.shape.specs.Blocks.{id}
 use Rattle.rules.specs.declared.Call.{Call}
 use Rattle.rules.specs.declared.Answer.the-variants.{Granted, Merged, Settled}
-use Rattle.rules.specs.Numbers.{CLOSED, DIVIDING, RELEASING}
+use Rattle.rules.specs.Numbers.{DIVIDING, RELEASING}
 use Rattle.rules.specs.Tables.{State, lengths, queueOf, callOf}
 use Rattle.rules.specs.Valid.{valid}
 use Rattle.rules.specs.Steps.{closed, holding}

@@ -1,11 +1,11 @@
 -- Document 01, 'Calls and steps': a block that is granted is a block of the pool, of the deepest level whose size is at least the one asked.
 -- Assumes nothing.
 use mathlib.Core.Path.{_≡_, refl, sym, _∙_, ap}
-use mathlib.Core.Bool.{Bool, true, false, not, _&&_, _||_, cond, false≢true}
+use mathlib.Core.Bool.{Bool, true, false, not, _&&_, cond, false≢true}
 use mathlib.Core.List.{List, [], _∷_}
-use Prim.Native.Nat.{ℕ, _+_, _*_, _/_, _%_, _≤_, _<_}
+use Prim.Native.Nat.{ℕ, _+_, _≤_, _<_}
 use native.Mathlib.Omega.{arith}
-use lib.Dec.{leb, ltb, eqb}
+use lib.Dec.{ltb, eqb}
 use borrow.Author.Tests.{ltb-true, ltb-false, leb-true, eqb-true, not-false}
 use Rattle.shape.specs.declared.Shape.{Shape}
 use Rattle.shape.specs.Limits.{allowed}
@@ -18,7 +18,7 @@ use Rattle.rules.specs.declared.Refusal.{Refusal}
 use Rattle.rules.specs.declared.Refusal.the-variants.{ShapeNotAllowed, WrongLength, NotValid, NoThread, NotRunning, NoCall}
 use Rattle.rules.specs.declared.Answer.{Answer}
 use Rattle.rules.specs.declared.Answer.the-variants.{Refused, Opened, Found, Again, Taken, Split, Granted, Waiting, Merged, Settled, Switched, Ticked, Whole, NotWhole, Built}
-use Rattle.rules.specs.Numbers.{CLOSED, ASKED, FOUND, DIVIDING, RELEASING, NEVER, TIMED}
+use Rattle.rules.specs.Numbers.{CLOSED, ASKED, FOUND, DIVIDING, NEVER, TIMED}
 use Rattle.rules.specs.Tables.{State, lengths, freeList, callOf}
 use Rattle.rules.specs.Valid.{targetKept, sizeKept, valid}
 use Rattle.rules.specs.Facts.{valid-facts}

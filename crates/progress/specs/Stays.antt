@@ -21,7 +21,7 @@ use Rattle.rules.specs.Numbers.{ALLOCATED, CLOSED, ASKED, FOUND, DIVIDING, WAIT
 use Rattle.rules.specs.Tables.{State, stateAt, freeList, queueOf, callOf, putCall}
 use Rattle.rules.specs.Valid.{valid}
 use Rattle.rules.specs.Facts.{valid-facts}
-use Rattle.rules.specs.Steps.{Outcome, closed, deepest, noRoom, lookAt, look, takeFrom, takeStep, splitStep, grantStep, divideStep, merges, mergeStep, wake, settleStep, releaseStep, goOnStep}
+use Rattle.rules.specs.Steps.{closed, deepest, noRoom, lookAt, look, takeFrom, takeStep, splitStep, grantStep, divideStep, merges, mergeStep, wake, settleStep, releaseStep, goOnStep}
 use Rattle.rules.specs.Calls.{isOutside, askStep, ask, goOn, idOutside, giveBlock, giveStep, give, switchStep, switch, tickStep, tick}
 use Rattle.calls.specs.Call.{callOf-putCall-other}
 use Rattle.theorems.specs.History.{Step, Build, Ask, GoOn, Give, Switch, Tick, Whole, stepOn}

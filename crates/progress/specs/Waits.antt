@@ -1,13 +1,13 @@
 -- Document 01, 'Calls and steps': on valid tables no call that may not wait is waiting, and none whose deadline the clock has reached.
 -- Assumes nothing.
-use mathlib.Core.Path.{_≡_, sym, _∙_}
-use mathlib.Core.Bool.{Bool, true, false, not, _&&_, _||_, false≢true}
+use mathlib.Core.Path.{_≡_}
+use mathlib.Core.Bool.{true, false≢true}
 use mathlib.Core.List.{List}
 use Prim.Native.Nat.{ℕ, _+_, _≤_, _<_}
 use native.Mathlib.Omega.{arith}
 use lib.ListN.{take}
-use lib.Dec.{leb, ltb, eqb}
-use borrow.Author.Tests.{eq-eqb, ltb-true}
+use lib.Dec.{leb}
+use borrow.Author.Tests.{ltb-true}
 use Rattle.laws.specs.Tests.{both}
 use Rattle.shape.specs.declared.Shape.{Shape}
 use Rattle.shape.specs.Limits.{allowed}
