@@ -28,8 +28,7 @@ use Rattle.forest.specs.Bytes.{lies-in}
 use Rattle.forest.specs.Cover.{cover-one}
 use Rattle.theorems.specs.History.{Step, Build, GoOn, stepOn}
 use Rattle.preserve.specs.Lines.{Facts, facts}
-use Rattle.preserve.specs.Runs.{Runs}
-use Rattle.preserve.specs.Owns.{hand-is}
+use Rattle.preserve.specs.Runs.{Runs, hand-is}
 use Rattle.preserve.specs.Histories.{steps-valid}
 use Rattle.frames.specs.Walk.{EachGoOn, EachStep, each-step}
 use Rattle.frames.specs.Others.{maker}
@@ -67,7 +66,7 @@ module _ (s : Shape) (T : State) (u k : ℕ) (w : Holds T u k) where
         where
           in-hand : stateAt s (T .states) (c .level) (c .block) ≡ ALLOCATING
           in-hand =
-              hand-is s T t c g ALLOCATING DIVIDING (g .facts .lines .allocating)
+              hand-is g ALLOCATING DIVIDING (g .facts .threads .allocating)
               (ap (λ (n : ℕ). eqb n DIVIDING || eqb n RELEASING) d)
               d
 
@@ -99,7 +98,7 @@ owned-allocated s T u k f e =
     eqb-true _ _
     (agree (eqb (getD (T .states) k 0) ALLOCATED) (eqb (getD (T .owners) k 0) 0)
     (both (Bool·beq (eqb (getD (T .states) k 0) ALLOCATED) (not (eqb (getD (T .owners) k 0) 0))) _
-    (every-at (blocks s) _ (f .lines .ownersKnown) k inside) .0)
+    (every-at (blocks s) _ (f .pool .owned) k inside) .0)
     (ne-eqb (getD (T .owners) k 0) 0 (λ q. omega (arith, e, q))))
   where
     inside : k < blocks s
@@ -107,7 +106,7 @@ owned-allocated s T u k f e =
       where
         go : Dec (k < blocks s) → k < blocks s
         go (yes h) = h
-        go (no h) = absurd (omega (arith, e, List·getD-eq-default (T .owners) 0 {n = k} (omega (arith, f .long .owners))))
+        go (no h) = absurd (omega (arith, e, List·getD-eq-default (T .owners) 0 {n = k} (omega (arith, f .pool .ownersLong))))
 
     agree : (a b : Bool) → Bool·beq a (not b) ≡ true → b ≡ false → a ≡ true
     agree true b q z = refl

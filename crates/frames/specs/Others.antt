@@ -17,7 +17,7 @@ use Rattle.rules.specs.Numbers.{WAITING, CELLS}
 use Rattle.rules.specs.Tables.{State, queueOf, callOf, putCall}
 use Rattle.rules.specs.Steps.{Outcome, closed, wake, takeFrom, splitStep, grantStep, mergeStep, settleStep}
 use Rattle.calls.specs.Call.{length-putCall, callOf-putCall-other}
-use Rattle.preserve.specs.Changes.{times-keep}
+use Rattle.laws.specs.Changes.{times-keep}
 use Rattle.preserve.specs.Lines.{Facts}
 use Rattle.preserve.specs.Queue.{named}
 use Rattle.preserve.specs.Woken.{woken, wake-other, wake-own}
@@ -58,12 +58,12 @@ OtherStays T u x o = (maker x ≡ u + 1 → ⊥) → (x ≡ Build → ⊥) → C
 
 module _ (s : Shape) (T : State) (u : ℕ) (h : u < s .threads) where
   queued : Facts s T → times u (queueOf (T .queue)) ≡ bit (eqb (callOf (T .calls) u .stage) WAITING)
-  queued k = named s (T .calls) (T .queue) (k .lines .waitersQueued) .each u h
+  queued k = named s (T .calls) (T .queue) (k .threads .waiters) .each u h
 
   -- a tick wakes some of those who are queued
   ticked-stays : (f : ℕ → Bool) → Facts s T → CallStays (T .calls) (wake (T .calls) (keep f (queueOf (T .queue)))) u
   ticked-stays f k =
-      wakes-only (T .calls) (keep f (queueOf (T .queue))) u (omega (arith, k .long .calls))
+      wakes-only (T .calls) (keep f (queueOf (T .queue))) u (omega (arith, k .threads .long))
       (omega (arith, times-keep f u (queueOf (T .queue)), fewer (f u) (times u (queueOf (T .queue))), queued k))
     where
       fewer : (b : Bool) (n : ℕ) → cond b n 0 ≤ n
@@ -77,7 +77,7 @@ module _ (s : Shape) (T : State) (u : ℕ) (h : u < s .threads) where
   settled-stays t n k =
       rw same at
       (wakes-only (putCall (T .calls) t closed) (queueOf (T .queue)) u
-      (omega (arith, k .long .calls, length-putCall (T .calls) t closed))
+      (omega (arith, k .threads .long, length-putCall (T .calls) t closed))
       (rw same (omega (arith, queued k))))
     where
       same : callOf (putCall (T .calls) t closed) u ≡ callOf (T .calls) u

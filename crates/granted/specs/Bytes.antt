@@ -17,8 +17,8 @@ use Rattle.shape.specs.Laws.{Limits, parts-pos, place-once, place-inside}
 use Rattle.shape.specs.Offsets.{over-inside}
 use Rattle.rules.specs.Numbers.{FREE, DIVIDED, ALLOCATING}
 use Rattle.rules.specs.Tables.{stateAt}
-use Rattle.preserve.specs.Changes.{part-of}
-use Rattle.preserve.specs.Family.{family, by-family, family-own, family-part, family-rest}
+use Rattle.laws.specs.Changes.{part-of}
+use Rattle.preserve.specs.Family.{Family, family, by-family, family-own, family-part, family-rest}
 use Rattle.forest.specs.Tree.{parent}
 use Rattle.forest.specs.Tables.{sizesOf}
 use Rattle.forest.specs.Bytes.{FreeByte}
@@ -92,6 +92,9 @@ module _ (s : Shape) (states : List ℕ) (l b : ℕ) (vs : List ℕ) (m : Limits
     (level : l + 1 < s .levels) (block : b < count s l) (wide : length vs ≡ parts s)
     (free : (j : ℕ) → j < parts s → (j ≡ 0) ⊎ (getD vs j 0 ≡ FREE)) (was : stateAt s states l b ≢ FREE)
     (none : (j : ℕ) → j < parts s → stateAt s states (l + 1) (parts s * b + j) ≢ FREE) where
+  kin : Family s states l b vs
+  kin = record { long = long; level = level; block = block; wide = wide }
+
   -- what was FREE lies elsewhere, and is so still
   stays : (k a : ℕ) → a < count s k → stateAt s states k a ≡ FREE → stateAt s (family s states l b DIVIDED vs) k a ≡ FREE
   stays =
@@ -99,7 +102,7 @@ module _ (s : Shape) (states : List ℕ) (l b : ℕ) (vs : List ℕ) (m : Limits
       (λ k a. a < count s k → stateAt s states k a ≡ FREE → stateAt s (family s states l b DIVIDED vs) k a ≡ FREE)
       (λ h e. absurd (was e))
       (λ j i h e. absurd (none j i e))
-      (λ k a d h e. family-rest s states l b DIVIDED vs long level block wide k a h d ∙ e)
+      (λ k a d h e. family-rest kin DIVIDED k a h d ∙ e)
 
   -- and what is FREE then was so, or is a part
   came :
@@ -110,9 +113,9 @@ module _ (s : Shape) (states : List ℕ) (l b : ℕ) (vs : List ℕ) (m : Limits
       (λ k a.
       a < count s k → stateAt s (family s states l b DIVIDED vs) k a ≡ FREE →
       (stateAt s states k a ≡ FREE) ⊎ ((k ≡ l + 1) × (a / parts s ≡ b)))
-      (λ h e. absurd (divided (sym (family-own s states l b DIVIDED vs long level block wide) ∙ e)))
+      (λ h e. absurd (divided (sym (family-own kin DIVIDED) ∙ e)))
       (λ j i h e. inr (refl, part-of (parts s) b j i))
-      (λ k a d h e. inl (sym (family-rest s states l b DIVIDED vs long level block wide k a h d) ∙ e))
+      (λ k a d h e. inl (sym (family-rest kin DIVIDED k a h d) ∙ e))
     where
       divided : DIVIDED ≡ FREE → ⊥
       divided e = omega arith
@@ -139,7 +142,7 @@ module _ (s : Shape) (states : List ℕ) (l b : ℕ) (vs : List ℕ) (m : Limits
             l + 1,
             level,
             ap (stateAt s (family s states l b DIVIDED vs) (l + 1)) is
-                ∙ family-part s states l b DIVIDED vs long level block wide _ (mod-lt (y / size s (l + 1)) (parts-pos s))
+                ∙ family-part kin DIVIDED _ (mod-lt (y / size s (l + 1)) (parts-pos s))
                 ∙ f,
           )
 

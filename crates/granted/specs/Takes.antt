@@ -15,7 +15,8 @@ use Rattle.rules.specs.declared.Answer.the-variants.{Refused, Found}
 use Rattle.rules.specs.Numbers.{NEVER, FOUND}
 use Rattle.rules.specs.Tables.{State, freeList}
 use Rattle.rules.specs.Facts.{valid-facts}
-use Rattle.rules.specs.Room.{length-facts, length-freeList, list-short}
+use Rattle.rules.specs.ListLaws.{length-freeList}
+use Rattle.rules.specs.Room.{length-facts, list-short}
 use Rattle.rules.specs.Steps.{Outcome, outcome, closed, onlyCall, deepest, noRoom, lookAt, look, takeFrom, takeStep, goOnStep}
 use Rattle.rules.specs.Calls.{goOn}
 use Rattle.granted.specs.Alone.{Alone, asking, goOn-running, goOn-alone}

@@ -26,8 +26,7 @@ use Rattle.rules.specs.Room.{length-facts, member-inside, parts-none}
 use Rattle.rules.specs.Steps.{Outcome, deepest, takeFrom, splitStep, grantStep}
 use Rattle.theorems.specs.Given.{listed-free}
 use Rattle.preserve.specs.Lines.{facts}
-use Rattle.preserve.specs.Runs.{Runs}
-use Rattle.preserve.specs.Owns.{hand-placed, hand-is}
+use Rattle.preserve.specs.Runs.{Runs, hand-placed, hand-is}
 use Rattle.forest.specs.Bytes.{FreeByte, FreeRun, lies-in}
 use Rattle.forest.specs.Cover.{cover-one}
 use Rattle.forest.specs.Found.{deepest-some}
@@ -71,10 +70,10 @@ module _ (s : Shape) (T : State) (t wanted l b : ℕ) (g : Alone s T t (dividing
       }
 
   placed : (l < s .levels) × (b < count s l)
-  placed = hand-placed s T t (dividing wanted l b) runs refl
+  placed = hand-placed runs refl
 
   in-hand : stateAt s (T .states) l b ≡ ALLOCATING
-  in-hand = hand-is s T t (dividing wanted l b) runs ALLOCATING DIVIDING (valid-facts s T (g .valid) .allocating) refl refl
+  in-hand = hand-is runs ALLOCATING DIVIDING (valid-facts s T (g .valid) .allocating) refl refl
 
   -- where it is split, the bytes of its first part, and those that are free, are the same together
   split-free :
