@@ -5,3 +5,4 @@ pub mod Times
 pub mod Keep
 pub mod Rows
 pub mod Changes
+pub mod Digits

@@ -16,7 +16,7 @@ use Rattle.rules.specs.declared.Answer.the-variants.{Refused}
 use Rattle.rules.specs.Numbers.{CLOSED, CELLS}
 use Rattle.rules.specs.Tables.{State, callOf}
 use Rattle.rules.specs.Room.{LengthFacts, length-facts}
-use Rattle.rules.specs.Facts.{ValidFacts, valid-facts}
+use Rattle.rules.specs.Facts.{Sound, ValidFacts, valid-facts}
 use Rattle.rules.specs.Steps.{Outcome, outcome, goOnStep}
 use Rattle.rules.specs.Calls.{checked, byRunning, goOn}
 use Rattle.rules.specs.Questions.{answered}
@@ -24,9 +24,9 @@ use Rattle.calls.specs.Queue.{QueueReady, queueReady}
 use Rattle.calls.specs.Wake.{MembersInside, membersInside}
 use Rattle.steps.specs.Ready.{HasCall, Gives}
 use Rattle.steps.specs.GoesOn.{GoesOn}
-use Rattle.verdict.specs.declared.Verdict.{Verdict}
-use Rattle.verdict.specs.declared.Verdict.the-variants.{Passed, Failed}
-use Rattle.verdict.specs.Verdict.{verdict, runningVerdict, Sound, through, passed, checked-is, answered-is, running-passed, running-is}
+use Rattle.rules.specs.declared.Verdict.{Verdict}
+use Rattle.rules.specs.declared.Verdict.the-variants.{Passed, Failed}
+use Rattle.verdict.specs.Verdict.{verdict, runningVerdict, through, passed, checked-is, answered-is, running-passed, running-is}
 
 module _ (s : Shape) (T : State) {v : Verdict} (e : v ≡ verdict s T) where
   pub refused : {r : Refusal} (rest : Outcome) → v ≡ Failed r → outcome (Refused r) T ≡ checked s T rest

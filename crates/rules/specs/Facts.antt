@@ -5,8 +5,15 @@ use mathlib.Core.Bool.{true}
 use Rattle.laws.specs.Tests.{both}
 use Rattle.shape.specs.declared.Shape.{Shape}
 use Rattle.rules.specs.Numbers.{FREEING, ALLOCATING, DIVIDING, RELEASING}
-use Rattle.rules.specs.Tables.{State}
+use Rattle.shape.specs.Limits.{allowed}
+use Rattle.rules.specs.Tables.{State, lengths}
 use Rattle.rules.specs.Valid.{statesKnown, ownersKnown, topsExist, partsExist, deepestWhole, buddiesMerged, listEnds, freeListed, callsKept, oneToOne, queueEnds, waitersQueued, runningReady, valid}
+
+-- tables that no call refuses: an allowed shape, the right lengths, a valid state
+pub record Sound (s : Shape) (T : State) : Type 0 where
+  pub shape : allowed s ≡ true
+  pub lengths : lengths s T ≡ true
+  pub valid : valid s T ≡ true
 
 pub record ValidFacts (s : Shape) (T : State) : Type 0 where
   pub statesKnown : statesKnown s (T .states) ≡ true

@@ -9,3 +9,5 @@ pub mod Steps
 pub mod Calls
 pub mod Questions
 pub mod Moves
+pub mod Script
+pub mod Listing

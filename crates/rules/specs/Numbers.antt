@@ -56,3 +56,29 @@ CELLS = 6
 -- the clock runs from 0 to here
 abbrev pub CLOCK-END : ℕ
 CLOCK-END = 4294967295
+
+-- the tags of a script's records
+abbrev pub SHAPE-TAG : ℕ
+SHAPE-TAG = 1
+
+abbrev pub ASK-TAG : ℕ
+ASK-TAG = 2
+
+abbrev pub GO-ON-TAG : ℕ
+GO-ON-TAG = 3
+
+abbrev pub GIVE-TAG : ℕ
+GIVE-TAG = 4
+
+abbrev pub SWITCH-TAG : ℕ
+SWITCH-TAG = 5
+
+abbrev pub TICK-TAG : ℕ
+TICK-TAG = 6
+
+abbrev pub WHOLE-TAG : ℕ
+WHOLE-TAG = 7
+
+-- the longest script that is run
+abbrev pub MOST-BYTES : ℕ
+MOST-BYTES = 65536

@@ -1,6 +1,7 @@
 // The words of document 01 as types: the record of clock and running thread, a thread's call, the answers.
 pub mod answers;
 pub mod lengths;
+pub mod script;
 
 ghost use mathlib.Core.Path.{_≡_};
 ghost use Rattle.rules.specs.Steps.{closed, holding, moved};
@@ -44,6 +45,7 @@ pub const CELLS: usize = 6;
 pub const CLOCK_END: u32 = 4294967295;
 
 // The clock, and who runs: 0 for nobody, t + 1 for thread t.
+#[repr(C)]
 pub struct Device {
     pub clock: u32,
     pub running: u32,
@@ -167,4 +169,10 @@ pub enum Mapped {
 pub struct Ran {
     pub answer: Answer,
     pub device: Device,
+}
+
+// Whether a check lets a call go on.
+pub enum Verdict {
+    Passed,
+    Failed(Refusal),
 }

@@ -8,6 +8,7 @@ ghost use Prim.Native.Nat.{_^_, _<_, _≤_};
 ghost use Rattle.shape.specs.Limits.{parts, allowed};
 ghost use Rattle.shape.specs.Blocks.{size, count, offset, levelFor, id, above, place, blocks, bytes};
 
+#[repr(C)]
 pub struct Shape {
     pub pool: usize,
     pub threads: usize,

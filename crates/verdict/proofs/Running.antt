@@ -8,8 +8,8 @@ use Rattle.shape.specs.declared.Shape.{Shape}
 use Rattle.rules.specs.declared.Refusal.{Refusal}
 use Rattle.rules.specs.declared.Refusal.the-variants.{NoThread, NotRunning}
 use Rattle.rules.specs.Tables.{State}
-use Rattle.verdict.specs.declared.Verdict.{Verdict}
-use Rattle.verdict.specs.declared.Verdict.the-variants.{Passed, Failed}
+use Rattle.rules.specs.declared.Verdict.{Verdict}
+use Rattle.rules.specs.declared.Verdict.the-variants.{Passed, Failed}
 use Rattle.verdict.specs.Verdict.{verdict, threadVerdict, runningVerdict}
 
 module _ (s : Shape) (T : State) (t : ℕ) {v : Verdict} (e : v ≡ verdict s T) where

@@ -13,23 +13,18 @@ use Rattle.rules.specs.declared.Refusal.the-variants.{ShapeNotAllowed, WrongLen
 use Rattle.rules.specs.declared.Answer.the-variants.{Refused}
 use Rattle.rules.specs.Tables.{State, lengths}
 use Rattle.rules.specs.Valid.{valid}
+use Rattle.rules.specs.Facts.{Sound}
 use Rattle.rules.specs.Steps.{Outcome, outcome}
 use Rattle.rules.specs.Calls.{refuse, checked, byRunning}
 use Rattle.rules.specs.Questions.{answered}
-use Rattle.verdict.specs.declared.Verdict.{Verdict}
-use Rattle.verdict.specs.declared.Verdict.the-variants.{Passed, Failed}
+use Rattle.rules.specs.declared.Verdict.{Verdict}
+use Rattle.rules.specs.declared.Verdict.the-variants.{Passed, Failed}
 
 -- the first of the refusals 1 to 3 that applies
 unfoldable pub verdict : Shape → State → Verdict
 verdict s T =
     cond (not (allowed s)) (Failed ShapeNotAllowed)
     (cond (not (lengths s T)) (Failed WrongLength) (cond (not (valid s T)) (Failed NotValid) Passed))
-
--- tables that pass
-pub record Sound (s : Shape) (T : State) : Type 0 where
-  pub shape : allowed s ≡ true
-  pub lengths : lengths s T ≡ true
-  pub valid : valid s T ≡ true
 
 -- what follows from a verdict: the refusal, or else what stands behind it
 abbrev pub through : {A : Type 0} → (Refusal → A) → A → Verdict → A

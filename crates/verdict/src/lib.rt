@@ -1,6 +1,7 @@
 // The check that every public call but build begins with: the shape, the lengths of the tables, and whether they are a valid state.
 use rules::Device;
 use rules::Refusal;
+use rules::Verdict;
 use shape::Shape;
 ghost use mathlib.Core.Path.{_≡_};
 ghost use mathlib.Core.Bool.{true};
@@ -10,11 +11,6 @@ ghost use Rattle.rules.specs.Tables.{state, lengths};
 ghost use Rattle.rules.specs.Valid.{valid};
 ghost use Rattle.rules.specs.Room.{LengthFacts};
 ghost use Rattle.verdict.specs.Verdict.{verdict, runningVerdict};
-
-pub enum Verdict {
-    Passed,
-    Failed(Refusal),
-}
 
 // Whether each table has the length that the shape asks for.
 pub fn lengths(
