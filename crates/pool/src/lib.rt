@@ -3,8 +3,6 @@ use rules::Answer;
 use rules::Covered;
 use rules::Device;
 use rules::Mapped;
-use rules::Ran;
-use rules::Refusal;
 use rules::Verdict;
 use shape::Shape;
 use shape::time::Millis;
@@ -16,36 +14,19 @@ ghost use Rattle.rules.specs.Questions.{whole, cover, mapOutcome, mapPool};
 
 // Build: the lent tables become those of a fresh pool, and the record's clock and runner with them.
 pub fn build(
-    d: Device,
+    d: &mut Device,
     s: Shape,
     states: &mut [u8],
     owners: &mut [u8],
     lists: &mut [u16],
     calls: &mut [u64],
     queue: &mut [u8],
-) -> Ran
-    ensures { λ r. ⌜ outcome (r .answer) (state (now (states .exit)) (now (owners .exit)) (now (lists .exit)) (now (calls .exit)) (now (queue .exit)) (r .device)) ≡ build s (state (now (states .entry)) (now (owners .entry)) (now (lists .entry)) (now (calls .entry)) (now (queue .entry)) d) ⌝ }
+) -> Answer
+    ensures { λ r. ⌜ outcome r (state (now (states .exit)) (now (owners .exit)) (now (lists .exit)) (now (calls .exit)) (now (queue .exit)) (now (d .exit))) ≡ build s (state (now (states .entry)) (now (owners .entry)) (now (lists .entry)) (now (calls .entry)) (now (queue .entry)) (now (d .entry))) ⌝ }
 {
-    if !s.allowed() {
-        return Ran {
-            answer: Answer::Refused(Refusal::ShapeNotAllowed),
-            device: d,
-        };
-    }
-    if !verdict::lengths(s, states, owners, lists, calls, queue) {
-        return Ran {
-            answer: Answer::Refused(Refusal::WrongLength),
-            device: d,
-        };
-    }
-    fresh::make_fresh(s, states, owners, lists, calls, queue);
-    Ran {
-        answer: Answer::Built,
-        device: Device {
-            clock: 0,
-            running: 0,
-        },
-    }
+    let r = checked::build(*d, s, states, owners, lists, calls, queue);
+    *d = r.device;
+    r.answer
 }
 
 // Ask: thread t asks for a block of at least this size, and says how long it would wait.
@@ -72,7 +53,7 @@ pub fn ask(
 
 // Go on: thread t's call makes its next step.
 pub fn go_on(
-    d: Device,
+    d: &mut Device,
     s: Shape,
     states: &mut [u8],
     owners: &mut [u8],
@@ -80,26 +61,12 @@ pub fn go_on(
     calls: &mut [u64],
     queue: &mut [u8],
     t: usize,
-) -> Ran
-    ensures { λ r. ⌜ outcome (r .answer) (state (now (states .exit)) (now (owners .exit)) (now (lists .exit)) (now (calls .exit)) (now (queue .exit)) (r .device)) ≡ goOn s (state (now (states .entry)) (now (owners .entry)) (now (lists .entry)) (now (calls .entry)) (now (queue .entry)) d) t ⌝ }
+) -> Answer
+    ensures { λ r. ⌜ outcome r (state (now (states .exit)) (now (owners .exit)) (now (lists .exit)) (now (calls .exit)) (now (queue .exit)) (now (d .exit))) ≡ goOn s (state (now (states .entry)) (now (owners .entry)) (now (lists .entry)) (now (calls .entry)) (now (queue .entry)) (now (d .entry))) t ⌝ }
 {
-    let v = verdict::checked_running(s, states, owners, lists, calls, queue, d, t);
-    match v {
-        Verdict::Failed(r) => Ran {
-            answer: Answer::Refused(r),
-            device: d,
-        },
-        Verdict::Passed => {
-            let c = calls::call::call_of(calls, t);
-            if c.stage == rules::CLOSED {
-                return Ran {
-                    answer: Answer::Refused(Refusal::NoCall),
-                    device: d,
-                };
-            }
-            steps::go_on::go_on_step(d, s, states, owners, lists, calls, queue, t)
-        }
-    }
+    let r = checked::go_on(*d, s, states, owners, lists, calls, queue, t);
+    *d = r.device;
+    r.answer
 }
 
 // Give back: thread t gives back the block with this id.
@@ -125,7 +92,7 @@ pub fn give_back(
 
 // Switch: thread t runs.
 pub fn switch(
-    d: Device,
+    d: &mut Device,
     s: Shape,
     states: &[u8],
     owners: &[u8],
@@ -133,39 +100,29 @@ pub fn switch(
     calls: &[u64],
     queue: &[u8],
     t: usize,
-) -> Ran
-    ensures { λ r. ⌜ outcome (r .answer) (state (now (states .entry)) (now (owners .entry)) (now (lists .entry)) (now (calls .entry)) (now (queue .entry)) (r .device)) ≡ switch s (state (now (states .entry)) (now (owners .entry)) (now (lists .entry)) (now (calls .entry)) (now (queue .entry)) d) t ⌝ }
+) -> Answer
+    ensures { λ r. ⌜ outcome r (state (now (states .entry)) (now (owners .entry)) (now (lists .entry)) (now (calls .entry)) (now (queue .entry)) (now (d .exit))) ≡ switch s (state (now (states .entry)) (now (owners .entry)) (now (lists .entry)) (now (calls .entry)) (now (queue .entry)) (now (d .entry))) t ⌝ }
 {
-    let v = verdict::checked(s, states, owners, lists, calls, queue, d);
-    match v {
-        Verdict::Failed(r) => Ran {
-            answer: Answer::Refused(r),
-            device: d,
-        },
-        Verdict::Passed => steps::switch::switch_step(d, s, calls, t),
-    }
+    let r = checked::switch(*d, s, states, owners, lists, calls, queue, t);
+    *d = r.device;
+    r.answer
 }
 
 // Tick: the clock rises, and who waited until now is ready.
 pub fn tick(
-    d: Device,
+    d: &mut Device,
     s: Shape,
     states: &[u8],
     owners: &[u8],
     lists: &[u16],
     calls: &mut [u64],
     queue: &mut [u8],
-) -> Ran
-    ensures { λ r. ⌜ outcome (r .answer) (state (now (states .entry)) (now (owners .entry)) (now (lists .entry)) (now (calls .exit)) (now (queue .exit)) (r .device)) ≡ tick s (state (now (states .entry)) (now (owners .entry)) (now (lists .entry)) (now (calls .entry)) (now (queue .entry)) d) ⌝ }
+) -> Answer
+    ensures { λ r. ⌜ outcome r (state (now (states .entry)) (now (owners .entry)) (now (lists .entry)) (now (calls .exit)) (now (queue .exit)) (now (d .exit))) ≡ tick s (state (now (states .entry)) (now (owners .entry)) (now (lists .entry)) (now (calls .entry)) (now (queue .entry)) (now (d .entry))) ⌝ }
 {
-    let v = verdict::checked(s, states, owners, lists, calls, queue, d);
-    match v {
-        Verdict::Failed(r) => Ran {
-            answer: Answer::Refused(r),
-            device: d,
-        },
-        Verdict::Passed => steps::tick::tick_step(d, calls, queue),
-    }
+    let r = checked::tick(*d, s, states, owners, lists, calls, queue);
+    *d = r.device;
+    r.answer
 }
 
 // Whole: whether every byte has come home and no call is open.

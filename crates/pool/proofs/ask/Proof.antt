@@ -5,7 +5,7 @@ use denote.Ref.{now}
 use Rattle.rules.specs.Tables.{state}
 use Rattle.shape.specs.Time.{wait}
 use Rattle.rules.specs.Calls.{ask, askStep}
-use Rattle.pool.proofs.Verdicts.{thread-refused, thread-goes-on, has-call}
+use Rattle.checked.specs.Verdicts.{thread-refused, thread-goes-on, has-call}
 use Rattle.pool.proofs.ask.Statement.{statement}
 use Rattle.pool.proofs.ask.Tie as tie
 

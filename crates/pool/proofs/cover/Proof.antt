@@ -6,7 +6,7 @@ use Rattle.rules.specs.Tables.{state}
 use Rattle.rules.specs.declared.Covered.{Covered}
 use Rattle.rules.specs.Questions.{cover}
 use Rattle.questions.specs.Cover.{coverAt}
-use Rattle.pool.proofs.Verdicts.{unanswered, answers, sound, kept}
+use Rattle.checked.specs.Verdicts.{unanswered, answers, sound, kept}
 use Rattle.pool.proofs.cover.Statement.{statement}
 use Rattle.pool.proofs.cover.Tie as tie
 

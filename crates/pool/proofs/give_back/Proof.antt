@@ -4,7 +4,7 @@ use borrow.Author.Needs.{needs}
 use denote.Ref.{now}
 use Rattle.rules.specs.Tables.{state}
 use Rattle.rules.specs.Calls.{give, giveStep}
-use Rattle.pool.proofs.Verdicts.{thread-refused, thread-goes-on, gives}
+use Rattle.checked.specs.Verdicts.{thread-refused, thread-goes-on, gives}
 use Rattle.pool.proofs.give_back.Statement.{statement}
 use Rattle.pool.proofs.give_back.Tie as tie
 

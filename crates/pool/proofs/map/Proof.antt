@@ -6,7 +6,7 @@ use Rattle.rules.specs.Tables.{state}
 use Rattle.rules.specs.declared.Refusal.{Refusal}
 use Rattle.rules.specs.declared.Mapped.{Mapped}
 use Rattle.rules.specs.Questions.{mapOutcome, mapPool, mapRow}
-use Rattle.pool.proofs.Verdicts.{unanswered, answers, sound, kept}
+use Rattle.checked.specs.Verdicts.{unanswered, answers, sound, kept}
 use Rattle.pool.proofs.map.Statement.{statement}
 use Rattle.pool.proofs.map.Tie as tie
 

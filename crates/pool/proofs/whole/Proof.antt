@@ -7,7 +7,7 @@ use mathlib.Core.Path.{_≡_, refl, sym, _∙_, ap}
 use mathlib.Core.Bool.{Bool, cond}
 use Rattle.rules.specs.declared.Answer.the-variants.{Refused, Whole, NotWhole}
 use Rattle.rules.specs.Questions.{whole, isWhole}
-use Rattle.pool.proofs.Verdicts.{unanswered, answers, sound, kept}
+use Rattle.checked.specs.Verdicts.{unanswered, answers, sound, kept}
 use Rattle.pool.proofs.whole.Statement.{statement}
 use Rattle.pool.proofs.whole.Tie as tie
 

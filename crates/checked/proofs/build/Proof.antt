@@ -1,4 +1,4 @@
--- `pool::build` meets its contract: the two tests are the rule's, and the tables are made fresh.
+-- `checked::build` meets its contract: the two tests are the rule's, and the tables are made fresh.
 -- Assumes nothing.
 use borrow.Author.Needs.{needs}
 use denote.Ref.{now}
@@ -6,9 +6,9 @@ use mathlib.Core.Path.{_≡_, sym, _∙_}
 use borrow.Author.Tests.{not-false}
 use Rattle.rules.specs.Tables.{state, fresh}
 use Rattle.rules.specs.Room.{length-facts}
-use Rattle.pool.proofs.Builds.{shape-refused, lengths-refused, built}
-use Rattle.pool.proofs.build.Statement.{statement}
-use Rattle.pool.proofs.build.Tie as tie
+use Rattle.checked.proofs.Builds.{shape-refused, lengths-refused, built}
+use Rattle.checked.proofs.build.Statement.{statement}
+use Rattle.checked.proofs.build.Tie as tie
 
 allowed-requires : tie.Need-allowed-requires
 allowed-requires c κs = search needs

@@ -1,12 +1,12 @@
--- `pool::tick` meets its contract: a verdict that failed is the refusal, and one that passed gives the step what it needs.
+-- `checked::tick` meets its contract: a verdict that failed is the refusal, and one that passed gives the step what it needs.
 -- Assumes nothing.
 use borrow.Author.Needs.{needs}
 use denote.Ref.{now}
 use Rattle.rules.specs.Tables.{state}
 use Rattle.rules.specs.Calls.{tick, tickStep}
-use Rattle.pool.proofs.Verdicts.{refused, goes-on, kept, queue-ready, members-inside}
-use Rattle.pool.proofs.tick.Statement.{statement}
-use Rattle.pool.proofs.tick.Tie as tie
+use Rattle.checked.specs.Verdicts.{refused, goes-on, kept, queue-ready, members-inside}
+use Rattle.checked.proofs.tick.Statement.{statement}
+use Rattle.checked.proofs.tick.Tie as tie
 
 checked-requires : tie.Need-checked-requires
 checked-requires c κs = search needs

@@ -1,12 +1,12 @@
--- `pool::switch` meets its contract: a verdict that failed is the refusal, and one that passed gives the step what it needs.
+-- `checked::switch` meets its contract: a verdict that failed is the refusal, and one that passed gives the step what it needs.
 -- Assumes nothing.
 use borrow.Author.Needs.{needs}
 use denote.Ref.{now}
 use Rattle.rules.specs.Tables.{state}
 use Rattle.rules.specs.Calls.{switch, switchStep}
-use Rattle.pool.proofs.Verdicts.{refused, goes-on, sound, kept}
-use Rattle.pool.proofs.switch.Statement.{statement}
-use Rattle.pool.proofs.switch.Tie as tie
+use Rattle.checked.specs.Verdicts.{refused, goes-on, sound, kept}
+use Rattle.checked.proofs.switch.Statement.{statement}
+use Rattle.checked.proofs.switch.Tie as tie
 
 checked-requires : tie.Need-checked-requires
 checked-requires c κs = search needs

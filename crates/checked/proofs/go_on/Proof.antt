@@ -1,12 +1,12 @@
--- `pool::go_on` meets its contract: a verdict that failed is the refusal, and one that passed gives the step what it needs.
+-- `checked::go_on` meets its contract: a verdict that failed is the refusal, and one that passed gives the step what it needs.
 -- Assumes nothing.
 use borrow.Author.Needs.{needs}
 use denote.Ref.{now}
 use Rattle.rules.specs.Tables.{state}
 use Rattle.rules.specs.Calls.{goOn}
-use Rattle.pool.proofs.Verdicts.{thread-refused, has-call, goes, no-call, one-step}
-use Rattle.pool.proofs.go_on.Statement.{statement}
-use Rattle.pool.proofs.go_on.Tie as tie
+use Rattle.checked.specs.Verdicts.{thread-refused, has-call, goes, no-call, one-step}
+use Rattle.checked.proofs.go_on.Statement.{statement}
+use Rattle.checked.proofs.go_on.Tie as tie
 
 checked-running-requires : tie.Need-checked-running-requires
 checked-running-requires c κs = search needs
