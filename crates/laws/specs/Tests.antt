@@ -119,3 +119,7 @@ tally-same (suc n) f g h =
 pub fails : (b : Bool) → (b ≡ true → ⊥) → false ≡ b
 fails true h = absurd (h refl)
 fails false h = refl
+
+-- all below one number are all below an equal one
+pub every-upto : (m n : ℕ) (f : ℕ → Bool) → m ≡ n → every m f ≡ every n f
+every-upto m n f e = rw e

@@ -55,10 +55,10 @@ pub fn tables_valid(
     if !calls_check::calls_valid(s, clock, calls) {
         return false;
     }
-    if !calls_check::hands_valid(s, states, calls) {
+    if !hands_check::hands_valid(s, states, calls) {
         return false;
     }
-    calls_check::queue_valid(s, calls, queue, d)
+    queue_check::queue_valid(s, calls, queue, d)
 }
 
 // The first of the refusals 1 to 3 that applies, if one does.

@@ -6,7 +6,7 @@ use native.Mathlib.Omega.{arith}
 use Rattle.laws.specs.Tests.{every, every-none, every-more}
 use Rattle.rules.specs.Tables.{callOf}
 use Rattle.rules.specs.Valid.{callKept, callsKept}
-use Rattle.calls_check.proofs.Laws.{passed}
+use Rattle.laws.specs.Tests.{every-upto}
 use Rattle.calls_check.proofs.calls_valid.Statement.{statement}
 use Rattle.calls_check.proofs.calls_valid.Tie as tie
 
@@ -37,7 +37,7 @@ loop-again c = (omega arith, rw every-more (cc))
 returns : tie.Need-returns Inv-loop μ-loop
 unfolding callsKept
 returns c =
-    c .before .before .loop .inv .1 ∙ passed _ _ _ (omega arith)
+    c .before .before .loop .inv .1 ∙ every-upto _ _ _ (omega arith)
 
 pub calls-valid-spec : {M : Type 1} → statement M
 calls-valid-spec =

@@ -5,7 +5,7 @@ use denote.Ref.{now}
 use mathlib.Core.Path.{_≡_, sym, _∙_}
 use borrow.Author.Tests.{not-false}
 use Rattle.rules.specs.Tables.{state}
-use Rattle.calls_check.specs.Hands.{kept-inside}
+use Rattle.hands_check.specs.Hands.{kept-inside}
 use Rattle.verdict.proofs.Parts.{tree-fails, lists-fail, calls-fail, hands-fail, last-part}
 use Rattle.verdict.proofs.tables_valid.Statement.{statement}
 use Rattle.verdict.proofs.tables_valid.Tie as tie
