@@ -6,3 +6,4 @@ pub mod Keep
 pub mod Rows
 pub mod Changes
 pub mod Digits
+pub mod Sets
