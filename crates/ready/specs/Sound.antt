@@ -15,20 +15,24 @@ use Rattle.rules.specs.Facts.{Sound, ValidFacts, valid-facts}
 use Rattle.calls.specs.Queue.{QueueReady, queueReady}
 use Rattle.calls.specs.Wake.{MembersInside, membersInside}
 
+-- what give back needs
 pub record GiveReady (s : Shape) (states owners calls : List ℕ) : Type 0 where
   pub shape : allowed s ≡ true
   pub whole : length states ≡ blocks s
   pub owned : length owners ≡ blocks s
   pub threads : length calls ≡ CELLS * s .threads
 
+-- what switch needs
 pub record SwitchReady (s : Shape) (calls : List ℕ) : Type 0 where
   pub shape : allowed s ≡ true
   pub threads : length calls ≡ CELLS * s .threads
 
+-- what tick needs
 pub record TickReady (calls queue : List ℕ) : Type 0 where
   pub ready : QueueReady queue
   pub members : MembersInside calls queue
 
+-- what whole needs
 pub record WholeReady (s : Shape) (states calls : List ℕ) : Type 0 where
   pub shape : allowed s ≡ true
   pub whole : length states ≡ blocks s

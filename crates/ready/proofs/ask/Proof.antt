@@ -6,8 +6,6 @@ use Rattle.ready.proofs.Outcomes.{ask-refused, asks}
 use borrow.Author.Needs.{needs}
 use Rattle.ready.proofs.ask.Statement.{statement}
 use Rattle.ready.proofs.ask.Tie as tie
-use Rattle.ready.proofs.may_step.Reads as may-step-reads
-use Rattle.steps.proofs.ask.ask_step.Reads as ask-step-reads
 
 may-step-requires : tie.Need-may-step-requires
 may-step-requires c κs = search needs

@@ -5,8 +5,6 @@ use Rattle.ready.proofs.Outcomes.{give-refused, gives}
 use borrow.Author.Needs.{needs}
 use Rattle.ready.proofs.give_back.Statement.{statement}
 use Rattle.ready.proofs.give_back.Tie as tie
-use Rattle.ready.proofs.may_step.Reads as may-step-reads
-use Rattle.steps.proofs.give.give_step.Reads as give-step-reads
 
 may-step-requires : tie.Need-may-step-requires
 may-step-requires c κs = search needs

@@ -7,9 +7,6 @@ use Rattle.ready.proofs.Outcomes.{go-on-refused, no-call, goes}
 use borrow.Author.Needs.{needs}
 use Rattle.ready.proofs.go_on.Statement.{statement}
 use Rattle.ready.proofs.go_on.Tie as tie
-use Rattle.calls.proofs.call.call_of.Reads as call-of-reads
-use Rattle.ready.proofs.may_step.Reads as may-step-reads
-use Rattle.steps.proofs.go_on.go_on_step.Reads as go-on-step-reads
 
 may-step-requires : tie.Need-may-step-requires
 may-step-requires c κs = search needs

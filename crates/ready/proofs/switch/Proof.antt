@@ -3,7 +3,6 @@
 use Rattle.ready.proofs.Outcomes.{switches}
 use Rattle.ready.proofs.switch.Statement.{statement}
 use Rattle.ready.proofs.switch.Tie as tie
-use Rattle.steps.proofs.switch.switch_step.Reads as switch-step-reads
 
 switch-step-requires : tie.Need-switch-step-requires
 switch-step-requires c κs = (c .before .pre .shape, c .before .pre .threads)

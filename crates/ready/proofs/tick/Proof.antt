@@ -5,7 +5,6 @@ use Rattle.ready.proofs.Outcomes.{ticks}
 use borrow.Author.Needs.{needs}
 use Rattle.ready.proofs.tick.Statement.{statement}
 use Rattle.ready.proofs.tick.Tie as tie
-use Rattle.steps.proofs.tick.tick_step.Reads as tick-step-reads
 
 tick-step-requires : tie.Need-tick-step-requires
 tick-step-requires c κs = (c .before .before .before .before .pre .ready, c .before .before .before .before .pre .members)

@@ -3,7 +3,6 @@
 use Rattle.ready.proofs.Outcomes.{answers}
 use Rattle.ready.proofs.whole.Statement.{statement}
 use Rattle.ready.proofs.whole.Tie as tie
-use Rattle.questions.proofs.whole.is_whole.Reads as is-whole-reads
 
 is-whole-requires : tie.Need-is-whole-requires
 is-whole-requires c κs = (c .before .before .pre .shape, c .before .before .pre .whole, c .before .before .pre .threads)
