@@ -1,0 +1,2 @@
+pub mod Thread
+pub mod Sound
