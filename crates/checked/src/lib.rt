@@ -58,22 +58,13 @@ pub fn go_on(
 ) -> Ran
     ensures { λ r. ⌜ outcome (r .answer) (state (now (states .exit)) (now (owners .exit)) (now (lists .exit)) (now (calls .exit)) (now (queue .exit)) (r .device)) ≡ goOn s (state (now (states .entry)) (now (owners .entry)) (now (lists .entry)) (now (calls .entry)) (now (queue .entry)) d) t ⌝ }
 {
-    let v = verdict::checked_running(s, states, owners, lists, calls, queue, d, t);
+    let v = verdict::checked(s, states, owners, lists, calls, queue, d);
     match v {
         Verdict::Failed(r) => Ran {
             answer: Answer::Refused(r),
             device: d,
         },
-        Verdict::Passed => {
-            let c = calls::call::call_of(calls, t);
-            if c.stage == rules::CLOSED {
-                return Ran {
-                    answer: Answer::Refused(Refusal::NoCall),
-                    device: d,
-                };
-            }
-            steps::go_on::go_on_step(d, s, states, owners, lists, calls, queue, t)
-        }
+        Verdict::Passed => ready::go_on(d, s, states, owners, lists, calls, queue, t),
     }
 }
 
@@ -96,7 +87,7 @@ pub fn switch(
             answer: Answer::Refused(r),
             device: d,
         },
-        Verdict::Passed => steps::switch::switch_step(d, s, calls, t),
+        Verdict::Passed => ready::switch(d, s, calls, t),
     }
 }
 
@@ -118,6 +109,6 @@ pub fn tick(
             answer: Answer::Refused(r),
             device: d,
         },
-        Verdict::Passed => steps::tick::tick_step(d, calls, queue),
+        Verdict::Passed => ready::tick(d, s, calls, queue),
     }
 }

@@ -44,10 +44,10 @@ pub fn ask(
 ) -> Answer
     ensures { λ r. ⌜ outcome r (state (now (states .entry)) (now (owners .entry)) (now (lists .entry)) (now (calls .exit)) (now (queue .entry)) d) ≡ ask s (state (now (states .entry)) (now (owners .entry)) (now (lists .entry)) (now (calls .entry)) (now (queue .entry)) d) t size wait ⌝ }
 {
-    let v = verdict::checked_running(s, states, owners, lists, calls, queue, d, t);
+    let v = verdict::checked(s, states, owners, lists, calls, queue, d);
     match v {
         Verdict::Failed(r) => Answer::Refused(r),
-        Verdict::Passed => steps::ask::ask_step(d, s, calls, t, size, wait),
+        Verdict::Passed => ready::ask(d, s, calls, t, size, wait),
     }
 }
 
@@ -83,10 +83,10 @@ pub fn give_back(
 ) -> Answer
     ensures { λ r. ⌜ outcome r (state (now (states .exit)) (now (owners .exit)) (now (lists .entry)) (now (calls .exit)) (now (queue .entry)) d) ≡ give s (state (now (states .entry)) (now (owners .entry)) (now (lists .entry)) (now (calls .entry)) (now (queue .entry)) d) t id ⌝ }
 {
-    let v = verdict::checked_running(s, states, owners, lists, calls, queue, d, t);
+    let v = verdict::checked(s, states, owners, lists, calls, queue, d);
     match v {
         Verdict::Failed(r) => Answer::Refused(r),
-        Verdict::Passed => steps::give::give_step(s, states, owners, calls, t, id),
+        Verdict::Passed => ready::give_back(d, s, states, owners, calls, t, id),
     }
 }
 
@@ -140,12 +140,7 @@ pub fn whole(
     let v = verdict::checked(s, states, owners, lists, calls, queue, d);
     match v {
         Verdict::Failed(r) => Answer::Refused(r),
-        Verdict::Passed => {
-            if questions::whole::is_whole(s, states, calls) {
-                return Answer::Whole;
-            }
-            Answer::NotWhole
-        }
+        Verdict::Passed => ready::whole(s, states, calls),
     }
 }
 

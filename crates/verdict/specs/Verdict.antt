@@ -31,15 +31,6 @@ abbrev pub through : {A : Type 0} → (Refusal → A) → A → Verdict → A
 through refused rest Passed = rest
 through refused rest (Failed r) = refused r
 
--- the first of the refusals 4 and 5 that applies
-unfoldable pub threadVerdict : Shape → State → ℕ → Verdict
-threadVerdict s T t =
-    cond (not (ltb t (s .threads))) (Failed NoThread) (cond (not (eqb (T .device .running) (t + 1))) (Failed NotRunning) Passed)
-
--- the first of the refusals 1 to 5 that applies
-unfoldable pub runningVerdict : Shape → State → ℕ → Verdict
-runningVerdict s T t = through Failed (threadVerdict s T t) (verdict s T)
-
 -- the three tests by their values
 of : Bool → Bool → Bool → Verdict
 of a l v =
@@ -91,47 +82,19 @@ module _ (s : Shape) (T : State) where
   unfolding verdict of
   answered-is refused rest = answers refused rest (allowed s) (lengths s T) (valid s T)
 
-  -- tables that pass, and a thread of the shape that runs
-  pub running-passed :
-      (t : ℕ) → runningVerdict s T t ≡ Passed → Sound s T × (t < s .threads) × (T .device .running ≡ t + 1)
-  unfolding runningVerdict threadVerdict
-  running-passed t e = go (verdict s T) refl e
-    where
-      tests :
-          (a b : Bool) → cond (not a) (Failed NoThread) (cond (not b) (Failed NotRunning) Passed) ≡ Passed →
-          (a ≡ true) × (b ≡ true)
-      tests true true q = (refl, refl)
-      tests true false q = absurd (apart NotRunning q)
-      tests false b q = absurd (apart NoThread q)
+module _ (s : Shape) (T : State) {v : Verdict} (e : v ≡ verdict s T) where
+  pub sound : v ≡ Passed → Sound s T
+  sound f = passed s T (sym e ∙ f)
 
-      go :
-          (v : Verdict) → verdict s T ≡ v →
-          through Failed
-          (cond (not (ltb t (s .threads))) (Failed NoThread)
-          (cond (not (eqb (T .device .running) (t + 1))) (Failed NotRunning) Passed))
-          v
-          ≡ Passed →
-          Sound s T × (t < s .threads) × (T .device .running ≡ t + 1)
-      go Passed v q =
-          let f = tests (ltb t (s .threads)) (eqb (T .device .running) (t + 1)) q in
-          (passed v, ltb-true t (s .threads) (f .0), eqb-true (T .device .running) (t + 1) (f .1))
-      go (Failed r) v q = absurd (apart r q)
+  -- a verdict that failed is the refusal of a call, and of a question
+  pub refused : {r : Refusal} (rest : Outcome) → v ≡ Failed r → outcome (Refused r) T ≡ checked s T rest
+  refused rest f = sym (checked-is s T rest ∙ ap (through (λ r. outcome (Refused r) T) rest) (sym e ∙ f))
 
-  -- a call by a thread, by the verdict on tables and thread
-  pub running-is :
-      (t : ℕ) (rest : Outcome) →
-      checked s T (byRunning s T t rest) ≡ through (λ r. outcome (Refused r) T) rest (runningVerdict s T t)
-  unfolding runningVerdict threadVerdict
-  running-is t rest =
-      checked-is (byRunning s T t rest)
-      ∙ go (verdict s T) (ltb t (s .threads)) (eqb (T .device .running) (t + 1))
-    where
-      go :
-          (v : Verdict) (a b : Bool) →
-          through (λ r. outcome (Refused r) T) (refuse (not a) NoThread T (refuse (not b) NotRunning T rest)) v
-          ≡ through (λ r. outcome (Refused r) T) rest
-          (through Failed (cond (not a) (Failed NoThread) (cond (not b) (Failed NotRunning) Passed)) v)
-      go Passed true true = refl
-      go Passed true false = refl
-      go Passed false b = refl
-      go (Failed r) a b = refl
+  pub unanswered :
+      {A : Type 0} {r : Refusal} (give : Refusal → A) (rest : A) → v ≡ Failed r → give r ≡ answered give s T rest
+  unanswered give rest f = sym (answered-is s T give rest ∙ ap (through give rest) (sym e ∙ f))
+
+  -- one that passed lets the question's own answer stand
+  pub answers-with :
+      {A : Type 0} {o : A} (give : Refusal → A) (rest : A) → v ≡ Passed → o ≡ rest → o ≡ answered give s T rest
+  answers-with give rest f p = p ∙ sym (answered-is s T give rest ∙ ap (through give rest) (sym e ∙ f))

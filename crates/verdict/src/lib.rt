@@ -5,12 +5,11 @@ use rules::Verdict;
 use shape::Shape;
 ghost use mathlib.Core.Path.{_≡_};
 ghost use mathlib.Core.Bool.{true};
-ghost use Prim.Native.Nat.{ℕ};
 ghost use Rattle.shape.specs.Limits.{allowed};
 ghost use Rattle.rules.specs.Tables.{state, lengths};
 ghost use Rattle.rules.specs.Valid.{valid};
 ghost use Rattle.rules.specs.Room.{LengthFacts};
-ghost use Rattle.verdict.specs.Verdict.{verdict, runningVerdict};
+ghost use Rattle.verdict.specs.Verdict.{verdict};
 
 // Whether each table has the length that the shape asks for.
 pub fn lengths(
@@ -81,33 +80,6 @@ pub fn checked(
     }
     if !tables_valid(s, states, owners, lists, calls, queue, d) {
         return Verdict::Failed(Refusal::NotValid);
-    }
-    Verdict::Passed
-}
-
-// The first of the refusals 1 to 5 that applies to a thread's call, if one does.
-pub fn checked_running(
-    s: Shape,
-    states: &[u8],
-    owners: &[u8],
-    lists: &[u16],
-    calls: &[u64],
-    queue: &[u8],
-    d: Device,
-    t: usize,
-) -> Verdict
-    ensures { λ r. ⌜ r ≡ runningVerdict s (state (now (states .entry)) (now (owners .entry)) (now (lists .entry)) (now (calls .entry)) (now (queue .entry)) d) t ⌝ }
-{
-    let running = d.running as usize;
-    let v = checked(s, states, owners, lists, calls, queue, d);
-    let Verdict::Passed = v else {
-        return v;
-    };
-    if s.threads <= t {
-        return Verdict::Failed(Refusal::NoThread);
-    }
-    if running != t + 1 {
-        return Verdict::Failed(Refusal::NotRunning);
     }
     Verdict::Passed
 }

@@ -1,12 +1,18 @@
--- `checked::switch` meets its contract: a verdict that failed is the refusal, and one that passed gives the step what it needs.
+-- `checked::switch` meets its contract: a verdict that failed is the refusal, and one that passed makes the tables sound.
 -- Assumes nothing.
-use borrow.Author.Needs.{needs}
 use denote.Ref.{now}
-use Rattle.rules.specs.Tables.{state}
-use Rattle.rules.specs.Calls.{switch, switchStep}
-use Rattle.checked.specs.Verdicts.{refused, goes-on, sound, kept}
+use Rattle.rules.specs.Tables.{State, state}
+use Rattle.verdict.specs.Verdict.{sound, refused}
+use Rattle.rules.specs.Facts.{Sound}
+use Rattle.rules.specs.Calls.{switch}
+use Rattle.ready.specs.Sound.{switch-ready}
+use borrow.Author.Needs.{needs}
 use Rattle.checked.proofs.switch.Statement.{statement}
 use Rattle.checked.proofs.switch.Tie as tie
+
+abbrev tables : tie.Start → State
+tables b =
+    state (now (b .args .states)) (now (b .args .owners)) (now (b .args .lists)) (now (b .args .calls)) (now (b .args .queue)) (b .args .d)
 
 checked-requires : tie.Need-checked-requires
 checked-requires c κs = search needs
@@ -17,18 +23,18 @@ enum-known-v c = search needs
 enum-told : tie.Need-enum-told
 enum-told c = search needs
 
-switch-step-requires : tie.Need-switch-step-requires
-switch-step-requires c κs = (sound (c .before .before .before .before .before .before .before .before .args .s) (state (now (c .before .before .before .before .before .before .before .before .args .states)) (now (c .before .before .before .before .before .before .before .before .args .owners)) (now (c .before .before .before .before .before .before .before .before .args .lists)) (now (c .before .before .before .before .before .before .before .before .args .calls)) (now (c .before .before .before .before .before .before .before .before .args .queue)) (c .before .before .before .before .before .before .before .before .args .d)) (c .before .before .checked .ensures) (c .enum-told .given .1) .shape, kept (c .before .before .before .before .before .before .before .before .args .s) (state (now (c .before .before .before .before .before .before .before .before .args .states)) (now (c .before .before .before .before .before .before .before .before .args .owners)) (now (c .before .before .before .before .before .before .before .before .args .lists)) (now (c .before .before .before .before .before .before .before .before .args .calls)) (now (c .before .before .before .before .before .before .before .before .args .queue)) (c .before .before .before .before .before .before .before .before .args .d)) (c .before .before .checked .ensures) (c .enum-told .given .1) .calls)
+switch-requires : tie.Need-switch-requires
+switch-requires c κs = switch-ready (sound (c .before .before .before .before .before .before .before .before .args .s) (tables (c .before .before .before .before .before .before .before .before)) (c .before .before .checked .ensures) (c .enum-told .given .1))
 
 returns : tie.Need-returns
 unfolding switch
-returns c = refused (c .before .before .before .before .before .before .before .before .before .args .s) (state (now (c .before .before .before .before .before .before .before .before .before .args .states)) (now (c .before .before .before .before .before .before .before .before .before .args .owners)) (now (c .before .before .before .before .before .before .before .before .before .args .lists)) (now (c .before .before .before .before .before .before .before .before .before .args .calls)) (now (c .before .before .before .before .before .before .before .before .before .args .queue)) (c .before .before .before .before .before .before .before .before .before .args .d)) (c .before .before .before .checked .ensures) (switchStep (c .before .before .before .before .before .before .before .before .before .args .s) (state (now (c .before .before .before .before .before .before .before .before .before .args .states)) (now (c .before .before .before .before .before .before .before .before .before .args .owners)) (now (c .before .before .before .before .before .before .before .before .before .args .lists)) (now (c .before .before .before .before .before .before .before .before .before .args .calls)) (now (c .before .before .before .before .before .before .before .before .before .args .queue)) (c .before .before .before .before .before .before .before .before .before .args .d)) (c .before .before .before .before .before .before .before .before .before .args .t)) (c .before .v .given .1)
+returns c = refused (c .before .before .before .before .before .before .before .before .before .args .s) (tables (c .before .before .before .before .before .before .before .before .before)) (c .before .before .before .checked .ensures) _ (c .before .v .given .1)
 
 returns-2 : tie.Need-returns-2
-unfolding switch
-returns-2 c = goes-on (c .before .before .before .before .before .before .before .before .before .args .s) (state (now (c .before .before .before .before .before .before .before .before .before .args .states)) (now (c .before .before .before .before .before .before .before .before .before .args .owners)) (now (c .before .before .before .before .before .before .before .before .before .args .lists)) (now (c .before .before .before .before .before .before .before .before .before .args .calls)) (now (c .before .before .before .before .before .before .before .before .before .args .queue)) (c .before .before .before .before .before .before .before .before .before .args .d)) (c .before .before .before .checked .ensures) (switchStep (c .before .before .before .before .before .before .before .before .before .args .s) (state (now (c .before .before .before .before .before .before .before .before .before .args .states)) (now (c .before .before .before .before .before .before .before .before .before .args .owners)) (now (c .before .before .before .before .before .before .before .before .before .args .lists)) (now (c .before .before .before .before .before .before .before .before .before .args .calls)) (now (c .before .before .before .before .before .before .before .before .before .args .queue)) (c .before .before .before .before .before .before .before .before .before .args .d)) (c .before .before .before .before .before .before .before .before .before .args .t)) (c .before .enum-told .given .1) (c .switch-step .ensures (now (c .before .before .before .before .before .before .before .before .before .args .states)) (now (c .before .before .before .before .before .before .before .before .before .args .owners)) (now (c .before .before .before .before .before .before .before .before .before .args .lists)) (now (c .before .before .before .before .before .before .before .before .before .args .queue)))
+returns-2 c =
+    c .switch .ensures _ _ _ _
+    (sound (c .before .before .before .before .before .before .before .before .before .args .s) (tables (c .before .before .before .before .before .before .before .before .before)) (c .before .before .before .checked .ensures) (c .before .enum-told .given .1))
 
 pub switch-spec : {M : Type 1} → statement M
 switch-spec =
-    tie.close
-    (tie.spec checked-requires enum-known-v enum-told switch-step-requires returns returns-2)
+    tie.close (tie.spec checked-requires enum-known-v enum-told switch-requires returns returns-2)

@@ -1,16 +1,20 @@
--- `pool::ask` meets its contract: a verdict that failed is the refusal, and one that passed gives the step what it needs.
+-- `pool::ask` meets its contract: a verdict that failed is the refusal, and one that passed makes the tables sound.
 -- Assumes nothing.
-use borrow.Author.Needs.{needs}
 use denote.Ref.{now}
-use Rattle.rules.specs.Tables.{state}
-use Rattle.shape.specs.Time.{wait}
-use Rattle.rules.specs.Calls.{ask, askStep}
-use Rattle.checked.specs.Verdicts.{thread-refused, thread-goes-on, has-call}
+use Rattle.rules.specs.Tables.{State, state}
+use Rattle.verdict.specs.Verdict.{sound, refused}
+use Rattle.rules.specs.Calls.{ask}
+use Rattle.ready.specs.Sound.{calls-length}
+use borrow.Author.Needs.{needs}
 use Rattle.pool.proofs.ask.Statement.{statement}
 use Rattle.pool.proofs.ask.Tie as tie
 
-checked-running-requires : tie.Need-checked-running-requires
-checked-running-requires c κs = search needs
+abbrev tables : tie.Start → State
+tables b =
+    state (now (b .args .states)) (now (b .args .owners)) (now (b .args .lists)) (now (b .args .calls)) (now (b .args .queue)) (b .args .d)
+
+checked-requires : tie.Need-checked-requires
+checked-requires c κs = search needs
 
 enum-known-v : tie.Need-enum-known-v
 enum-known-v c = search needs
@@ -18,31 +22,30 @@ enum-known-v c = search needs
 enum-told : tie.Need-enum-told
 enum-told c = search needs
 
-ask-step-requires : tie.Need-ask-step-requires
-ask-step-requires c κs = has-call (c .before .before .before .before .before .before .before .before .before .before .args .s) (state (now (c .before .before .before .before .before .before .before .before .before .before .args .states)) (now (c .before .before .before .before .before .before .before .before .before .before .args .owners)) (now (c .before .before .before .before .before .before .before .before .before .before .args .lists)) (now (c .before .before .before .before .before .before .before .before .before .before .args .calls)) (now (c .before .before .before .before .before .before .before .before .before .before .args .queue)) (c .before .before .before .before .before .before .before .before .before .before .args .d)) (c .before .before .before .before .before .before .before .before .before .before .args .t) (c .before .before .before .checked-running .ensures) (c .before .enum-told .given .1)
+ask-requires : tie.Need-ask-requires
+ask-requires c κs = calls-length (sound (c .before .before .before .before .before .before .before .before .before .before .args .s) (tables (c .before .before .before .before .before .before .before .before .before .before)) (c .before .before .before .checked .ensures) (c .before .enum-told .given .1))
 
 same-length : tie.Need-same-length
 same-length c = search needs
 
 returns : tie.Need-returns
 unfolding ask
-returns c = thread-refused (c .before .before .before .before .before .before .before .before .before .before .args .s) (state (now (c .before .before .before .before .before .before .before .before .before .before .args .states)) (now (c .before .before .before .before .before .before .before .before .before .before .args .owners)) (now (c .before .before .before .before .before .before .before .before .before .before .args .lists)) (now (c .before .before .before .before .before .before .before .before .before .before .args .calls)) (now (c .before .before .before .before .before .before .before .before .before .before .args .queue)) (c .before .before .before .before .before .before .before .before .before .before .args .d)) (c .before .before .before .before .before .before .before .before .before .before .args .t) (c .before .before .before .checked-running .ensures) (askStep (c .before .before .before .before .before .before .before .before .before .before .args .s) (state (now (c .before .before .before .before .before .before .before .before .before .before .args .states)) (now (c .before .before .before .before .before .before .before .before .before .before .args .owners)) (now (c .before .before .before .before .before .before .before .before .before .before .args .lists)) (now (c .before .before .before .before .before .before .before .before .before .before .args .calls)) (now (c .before .before .before .before .before .before .before .before .before .before .args .queue)) (c .before .before .before .before .before .before .before .before .before .before .args .d)) (c .before .before .before .before .before .before .before .before .before .before .args .t) (c .before .before .before .before .before .before .before .before .before .before .args .size) (wait (c .before .before .before .before .before .before .before .before .before .before .args .wait .0))) (c .before .v .given .1)
+returns c = refused (c .before .before .before .before .before .before .before .before .before .before .args .s) (tables (c .before .before .before .before .before .before .before .before .before .before)) (c .before .before .before .checked .ensures) _ (c .before .v .given .1)
 
 same-length-2 : tie.Need-same-length-2
 same-length-2 c = search needs
 
 returns-2 : tie.Need-returns-2
-unfolding ask
-returns-2 c = thread-goes-on (c .before .before .before .before .before .before .before .before .before .before .before .before .before .args .s) (state (now (c .before .before .before .before .before .before .before .before .before .before .before .before .before .args .states)) (now (c .before .before .before .before .before .before .before .before .before .before .before .before .before .args .owners)) (now (c .before .before .before .before .before .before .before .before .before .before .before .before .before .args .lists)) (now (c .before .before .before .before .before .before .before .before .before .before .before .before .before .args .calls)) (now (c .before .before .before .before .before .before .before .before .before .before .before .before .before .args .queue)) (c .before .before .before .before .before .before .before .before .before .before .before .before .before .args .d)) (c .before .before .before .before .before .before .before .before .before .before .before .before .before .args .t) (c .before .before .before .before .before .before .checked-running .ensures) (askStep (c .before .before .before .before .before .before .before .before .before .before .before .before .before .args .s) (state (now (c .before .before .before .before .before .before .before .before .before .before .before .before .before .args .states)) (now (c .before .before .before .before .before .before .before .before .before .before .before .before .before .args .owners)) (now (c .before .before .before .before .before .before .before .before .before .before .before .before .before .args .lists)) (now (c .before .before .before .before .before .before .before .before .before .before .before .before .before .args .calls)) (now (c .before .before .before .before .before .before .before .before .before .before .before .before .before .args .queue)) (c .before .before .before .before .before .before .before .before .before .before .before .before .before .args .d)) (c .before .before .before .before .before .before .before .before .before .before .before .before .before .args .t) (c .before .before .before .before .before .before .before .before .before .before .before .before .before .args .size) (wait (c .before .before .before .before .before .before .before .before .before .before .before .before .before .args .wait .0))) (c .before .before .before .before .enum-told .given .1) (c .before .before .ask-step .ensures (now (c .before .before .before .before .before .before .before .before .before .before .before .before .before .args .states)) (now (c .before .before .before .before .before .before .before .before .before .before .before .before .before .args .owners)) (now (c .before .before .before .before .before .before .before .before .before .before .before .before .before .args .lists)) (now (c .before .before .before .before .before .before .before .before .before .before .before .before .before .args .queue)))
+returns-2 c = c .before .before .ask .ensures _ _ _ _ (sound (c .before .before .before .before .before .before .before .before .before .before .before .before .before .args .s) (tables (c .before .before .before .before .before .before .before .before .before .before .before .before .before)) (c .before .before .before .before .before .before .checked .ensures) (c .before .before .before .before .enum-told .given .1))
 
 pub ask-spec : {M : Type 1} → statement M
 ask-spec =
     tie.close
     (tie.spec
-    checked-running-requires
+    checked-requires
     enum-known-v
     enum-told
-    ask-step-requires
+    ask-requires
     same-length
     returns
     same-length-2

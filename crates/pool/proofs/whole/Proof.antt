@@ -1,15 +1,18 @@
--- `pool::whole` meets its contract: a verdict that failed is the refusal, and one that passed gives the step what it needs.
+-- `pool::whole` meets its contract: a verdict that failed is the refusal, and one that passed makes the tables sound.
 -- Assumes nothing.
-use borrow.Author.Needs.{needs}
 use denote.Ref.{now}
-use Rattle.rules.specs.Tables.{state}
-use mathlib.Core.Path.{_≡_, refl, sym, _∙_, ap}
-use mathlib.Core.Bool.{Bool, cond}
-use Rattle.rules.specs.declared.Answer.the-variants.{Refused, Whole, NotWhole}
-use Rattle.rules.specs.Questions.{whole, isWhole}
-use Rattle.checked.specs.Verdicts.{unanswered, answers, sound, kept}
+use Rattle.rules.specs.Tables.{State, state}
+use Rattle.verdict.specs.Verdict.{sound, unanswered}
+use Rattle.rules.specs.declared.Answer.the-variants.{Refused}
+use Rattle.rules.specs.Questions.{whole}
+use Rattle.ready.specs.Sound.{whole-ready}
+use borrow.Author.Needs.{needs}
 use Rattle.pool.proofs.whole.Statement.{statement}
 use Rattle.pool.proofs.whole.Tie as tie
+
+abbrev tables : tie.Start → State
+tables b =
+    state (now (b .args .states)) (now (b .args .owners)) (now (b .args .lists)) (now (b .args .calls)) (now (b .args .queue)) (b .args .d)
 
 checked-requires : tie.Need-checked-requires
 checked-requires c κs = search needs
@@ -20,29 +23,16 @@ enum-known-v c = search needs
 enum-told : tie.Need-enum-told
 enum-told c = search needs
 
-is-whole-requires : tie.Need-is-whole-requires
-is-whole-requires c κs = (sound (c .before .before .before .before .before .before .before .before .args .s) (state (now (c .before .before .before .before .before .before .before .before .args .states)) (now (c .before .before .before .before .before .before .before .before .args .owners)) (now (c .before .before .before .before .before .before .before .before .args .lists)) (now (c .before .before .before .before .before .before .before .before .args .calls)) (now (c .before .before .before .before .before .before .before .before .args .queue)) (c .before .before .before .before .before .before .before .before .args .d)) (c .before .before .checked .ensures) (c .enum-told .given .1) .shape, kept (c .before .before .before .before .before .before .before .before .args .s) (state (now (c .before .before .before .before .before .before .before .before .args .states)) (now (c .before .before .before .before .before .before .before .before .args .owners)) (now (c .before .before .before .before .before .before .before .before .args .lists)) (now (c .before .before .before .before .before .before .before .before .args .calls)) (now (c .before .before .before .before .before .before .before .before .args .queue)) (c .before .before .before .before .before .before .before .before .args .d)) (c .before .before .checked .ensures) (c .enum-told .given .1) .states, kept (c .before .before .before .before .before .before .before .before .args .s) (state (now (c .before .before .before .before .before .before .before .before .args .states)) (now (c .before .before .before .before .before .before .before .before .args .owners)) (now (c .before .before .before .before .before .before .before .before .args .lists)) (now (c .before .before .before .before .before .before .before .before .args .calls)) (now (c .before .before .before .before .before .before .before .before .args .queue)) (c .before .before .before .before .before .before .before .before .args .d)) (c .before .before .checked .ensures) (c .enum-told .given .1) .calls)
+whole-requires : tie.Need-whole-requires
+whole-requires c κs = whole-ready (sound (c .before .before .before .before .before .before .before .before .args .s) (tables (c .before .before .before .before .before .before .before .before)) (c .before .before .checked .ensures) (c .enum-told .given .1))
 
 returns : tie.Need-returns
 unfolding whole
-returns c = answers (c .before .before .before .before .before .before .before .before .before .before .args .s) (state (now (c .before .before .before .before .before .before .before .before .before .before .args .states)) (now (c .before .before .before .before .before .before .before .before .before .before .args .owners)) (now (c .before .before .before .before .before .before .before .before .before .before .args .lists)) (now (c .before .before .before .before .before .before .before .before .before .before .args .calls)) (now (c .before .before .before .before .before .before .before .before .before .before .args .queue)) (c .before .before .before .before .before .before .before .before .before .before .args .d)) (c .before .before .before .before .checked .ensures) Refused (cond (isWhole (c .before .before .before .before .before .before .before .before .before .before .args .s) (state (now (c .before .before .before .before .before .before .before .before .before .before .args .states)) (now (c .before .before .before .before .before .before .before .before .before .before .args .owners)) (now (c .before .before .before .before .before .before .before .before .before .before .args .lists)) (now (c .before .before .before .before .before .before .before .before .before .before .args .calls)) (now (c .before .before .before .before .before .before .before .before .before .before .args .queue)) (c .before .before .before .before .before .before .before .before .before .before .args .d))) Whole NotWhole) (c .before .before .enum-told .given .1) (ap (λ (b : Bool). cond b Whole NotWhole) (sym (c .if1 .taken) ∙ c .before .is-whole .ensures (now (c .before .before .before .before .before .before .before .before .before .before .args .owners)) (now (c .before .before .before .before .before .before .before .before .before .before .args .lists)) (now (c .before .before .before .before .before .before .before .before .before .before .args .queue)) (c .before .before .before .before .before .before .before .before .before .before .args .d)))
+returns c = unanswered (c .before .before .before .before .before .before .before .before .before .args .s) (tables (c .before .before .before .before .before .before .before .before .before)) (c .before .before .before .checked .ensures) Refused _ (c .before .v .given .1)
 
 returns-2 : tie.Need-returns-2
-unfolding whole
-returns-2 c = unanswered (c .before .before .before .before .before .before .before .before .before .args .s) (state (now (c .before .before .before .before .before .before .before .before .before .args .states)) (now (c .before .before .before .before .before .before .before .before .before .args .owners)) (now (c .before .before .before .before .before .before .before .before .before .args .lists)) (now (c .before .before .before .before .before .before .before .before .before .args .calls)) (now (c .before .before .before .before .before .before .before .before .before .args .queue)) (c .before .before .before .before .before .before .before .before .before .args .d)) (c .before .before .before .checked .ensures) Refused (cond (isWhole (c .before .before .before .before .before .before .before .before .before .args .s) (state (now (c .before .before .before .before .before .before .before .before .before .args .states)) (now (c .before .before .before .before .before .before .before .before .before .args .owners)) (now (c .before .before .before .before .before .before .before .before .before .args .lists)) (now (c .before .before .before .before .before .before .before .before .before .args .calls)) (now (c .before .before .before .before .before .before .before .before .before .args .queue)) (c .before .before .before .before .before .before .before .before .before .args .d))) Whole NotWhole) (c .before .v .given .1)
-
-returns-3 : tie.Need-returns-3
-unfolding whole
-returns-3 c = answers (c .before .before .before .before .before .before .before .before .before .before .args .s) (state (now (c .before .before .before .before .before .before .before .before .before .before .args .states)) (now (c .before .before .before .before .before .before .before .before .before .before .args .owners)) (now (c .before .before .before .before .before .before .before .before .before .before .args .lists)) (now (c .before .before .before .before .before .before .before .before .before .before .args .calls)) (now (c .before .before .before .before .before .before .before .before .before .before .args .queue)) (c .before .before .before .before .before .before .before .before .before .before .args .d)) (c .before .before .before .before .checked .ensures) Refused (cond (isWhole (c .before .before .before .before .before .before .before .before .before .before .args .s) (state (now (c .before .before .before .before .before .before .before .before .before .before .args .states)) (now (c .before .before .before .before .before .before .before .before .before .before .args .owners)) (now (c .before .before .before .before .before .before .before .before .before .before .args .lists)) (now (c .before .before .before .before .before .before .before .before .before .before .args .calls)) (now (c .before .before .before .before .before .before .before .before .before .before .args .queue)) (c .before .before .before .before .before .before .before .before .before .before .args .d))) Whole NotWhole) (c .before .before .enum-told .given .1) (ap (λ (b : Bool). cond b Whole NotWhole) (sym (c .if1 .left) ∙ c .before .is-whole .ensures (now (c .before .before .before .before .before .before .before .before .before .before .args .owners)) (now (c .before .before .before .before .before .before .before .before .before .before .args .lists)) (now (c .before .before .before .before .before .before .before .before .before .before .args .queue)) (c .before .before .before .before .before .before .before .before .before .before .args .d)))
+returns-2 c = c .whole .ensures _ _ _ _ (sound (c .before .before .before .before .before .before .before .before .before .args .s) (tables (c .before .before .before .before .before .before .before .before .before)) (c .before .before .before .checked .ensures) (c .before .enum-told .given .1))
 
 pub whole-spec : {M : Type 1} → statement M
 whole-spec =
-    tie.close
-    (tie.spec
-    checked-requires
-    enum-known-v
-    enum-told
-    is-whole-requires
-    returns
-    returns-2
-    returns-3)
+    tie.close (tie.spec checked-requires enum-known-v enum-told whole-requires returns returns-2)
