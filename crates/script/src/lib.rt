@@ -1,0 +1,2 @@
+// A script that is lent: what stands at an offset of it.
+pub mod numbers;
