@@ -41,3 +41,7 @@ unfolding putCall
 callOf-putCall-other calls t u c h =
     callOf-same (putCall calls t c) calls u u
     (λ k l. getD-sets-other calls (cells c) (CELLS * t) (CELLS * u + k) 0 (λ m n. omega arith))
+
+-- thread t has a call in the table
+abbrev pub HasCall : List ℕ → ℕ → Type 0
+HasCall calls t = CELLS * t + CELLS ≤ length calls

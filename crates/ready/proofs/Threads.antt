@@ -19,7 +19,8 @@ use Rattle.rules.specs.declared.Verdict.the-variants.{Passed, Failed}
 use Rattle.rules.specs.Numbers.{CLOSED, CELLS}
 use Rattle.rules.specs.Tables.{state, callOf}
 use Rattle.rules.specs.Facts.{Sound}
-use Rattle.steps.specs.Ready.{HasCall, Gives}
+use Rattle.calls.specs.Call.{HasCall}
+use Rattle.asks.specs.Ready.{Gives}
 use Rattle.steps.specs.GoesOn.{GoesOn}
 use Rattle.ready.specs.Thread.{threadVerdict}
 use Rattle.ready.specs.Sound.{GiveReady}

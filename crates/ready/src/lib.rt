@@ -41,7 +41,7 @@ pub fn ask(d: Device, s: Shape, calls: &mut [u64], t: usize, size: usize, wait: 
     let v = may_step(d, s, t);
     match v {
         Verdict::Failed(r) => Answer::Refused(r),
-        Verdict::Passed => steps::ask::ask_step(d, s, calls, t, size, wait),
+        Verdict::Passed => asks::ask::ask_step(d, s, calls, t, size, wait),
     }
 }
 
@@ -94,7 +94,7 @@ pub fn give_back(
     let v = may_step(d, s, t);
     match v {
         Verdict::Failed(r) => Answer::Refused(r),
-        Verdict::Passed => steps::give::give_step(s, states, owners, calls, t, id),
+        Verdict::Passed => asks::give::give_step(s, states, owners, calls, t, id),
     }
 }
 
@@ -103,7 +103,7 @@ pub fn switch(d: Device, s: Shape, calls: &[u64], t: usize) -> Ran
     requires { ⌜ SwitchReady s (now calls) ⌝ }
     ensures { λ r. ⌜ ((states owners lists queue : List ℕ) → Sound s (state states owners lists (now (calls .entry)) queue d) → outcome (r .answer) (state states owners lists (now (calls .entry)) queue (r .device)) ≡ switch s (state states owners lists (now (calls .entry)) queue d) t) ⌝ }
 {
-    steps::switch::switch_step(d, s, calls, t)
+    asks::switch::switch_step(d, s, calls, t)
 }
 
 // Tick: the clock rises, and who waited until now is ready.
@@ -111,7 +111,7 @@ pub fn tick(d: Device, s: Shape, calls: &mut [u64], queue: &mut [u8]) -> Ran
     requires { ⌜ TickReady (now calls) (now queue) ⌝ }
     ensures { λ r. ⌜ ((states owners lists : List ℕ) → Sound s (state states owners lists (now (calls .entry)) (now (queue .entry)) d) → outcome (r .answer) (state states owners lists (now (calls .exit)) (now (queue .exit)) (r .device)) ≡ tick s (state states owners lists (now (calls .entry)) (now (queue .entry)) d)) ⌝ }
 {
-    steps::tick::tick_step(d, calls, queue)
+    asks::tick::tick_step(d, calls, queue)
 }
 
 // Whole: whether every byte has come home and no call is open.

@@ -1,6 +1,1 @@
-pub mod Looks
-pub mod Asks
-pub mod Switches
-pub mod Moves
-pub mod Gives
 pub mod Branches

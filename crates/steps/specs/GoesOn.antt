@@ -1,31 +1,31 @@
 -- A thread that goes on, and what valid tables give to the step of its stage.
 -- Assumes nothing.
-use mathlib.Core.Path.{_≡_, refl, sym, _∙_, ap}
-use mathlib.Core.Bool.{Bool, true, false, not, _&&_, _||_, true≢false, false≢true}
+use mathlib.Core.Path.{_≡_, sym, _∙_, ap}
+use mathlib.Core.Bool.{true, false, not, _&&_, true≢false}
 use mathlib.Core.Logic.{_⊎_, inl, inr}
-use mathlib.Core.List.{List}
-use Prim.Native.Nat.{ℕ, zero, suc, _+_, _*_, _-_, _≤_, _<_}
+use Prim.Native.Nat.{ℕ, _+_, _*_, _-_, _≤_, _<_}
 use native.Mathlib.Omega.{arith}
-use lib.ListN.{length, getD}
-use lib.Dec.{leb, ltb, eqb}
-use borrow.Author.Tests.{leb-true, eqb-true, eq-eqb, ne-eqb}
+use lib.ListN.{getD}
+use lib.Dec.{leb, eqb}
+use borrow.Author.Tests.{leb-true, eqb-true, eq-eqb}
 use Rattle.laws.specs.Tests.{both, either}
 use Rattle.shape.specs.declared.Shape.{Shape}
 use Rattle.shape.specs.Limits.{parts, allowed}
-use Rattle.shape.specs.Blocks.{count, blocks, levelFor}
-use Rattle.shape.specs.Laws.{Limits, limits, parts-pos, levelFor-inside}
+use Rattle.shape.specs.Blocks.{count, levelFor}
+use Rattle.shape.specs.Laws.{limits, parts-pos, levelFor-inside}
 use Rattle.shape.specs.Sections.{part-inside}
-use Rattle.rules.specs.declared.Call.{Call}
-use Rattle.rules.specs.Numbers.{FREE, DIVIDED, NOEXIST, FREEING, ALLOCATING, CLOSED, ASKED, FOUND, DIVIDING, RELEASING, WAITING, CELLS}
-use Rattle.rules.specs.Tables.{State, lengths, stateAt, freeList, callOf}
+use Rattle.rules.specs.Numbers.{FREE, FREEING, ALLOCATING, CLOSED, ASKED, FOUND, DIVIDING, RELEASING, WAITING}
+use Rattle.rules.specs.Tables.{State, lengths, stateAt, callOf}
 use Rattle.rules.specs.Valid.{usesBlock, fieldsUsed, runningReady, valid}
 use Rattle.rules.specs.Facts.{ValidFacts, valid-facts}
-use Rattle.rules.specs.Room.{LengthFacts, length-facts, CallFacts, call-facts, hand-inside, found-inside, hand-state, parts-none, list-short, list-room, member-inside, queue-room}
+use Rattle.rules.specs.Room.{LengthFacts, length-facts, CallFacts, call-facts, hand-inside, found-inside, hand-state, parts-none, list-room, member-inside, queue-room}
 use Rattle.rules.specs.ListLaws.{ListReady, listReady, length-freeList}
-use Rattle.calls.specs.Queue.{QueueReady, queueReady}
-use Rattle.calls.specs.Wake.{MembersInside, membersInside}
+use Rattle.calls.specs.Queue.{queueReady}
+use Rattle.calls.specs.Wake.{membersInside}
 use Rattle.lists.specs.Cells.{HasBlock}
-use Rattle.steps.specs.Ready.{HasCall, Joins, Looks, Takes, Splits, Grants, Settles, Divides}
+use Rattle.calls.specs.Call.{HasCall}
+use Rattle.takes.specs.Ready.{Looks, Takes, Splits, Grants, Divides}
+use Rattle.releases.specs.Ready.{Settles}
 
 -- thread t runs and has a call open, on valid tables
 pub record GoesOn (s : Shape) (T : State) (t : ℕ) : Type 0 where

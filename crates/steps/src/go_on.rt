@@ -23,16 +23,16 @@ pub fn go_on_step(
 {
     let c = calls::call::call_of(calls, t);
     if c.stage == rules::ASKED {
-        return crate::look::look_step(d, s, lists, calls, queue, t, c);
+        return takes::look::look_step(d, s, lists, calls, queue, t, c);
     }
     if c.stage == rules::FOUND {
-        let answer = crate::take::take_step(s, states, lists, calls, t, c);
+        let answer = takes::take::take_step(s, states, lists, calls, t, c);
         return Ran { answer, device: d };
     }
     if c.stage == rules::DIVIDING {
-        let answer = crate::divide::divide_step(s, states, owners, lists, calls, t, c);
+        let answer = takes::divide::divide_step(s, states, owners, lists, calls, t, c);
         return Ran { answer, device: d };
     }
-    let answer = crate::release::release_step(s, states, lists, calls, queue, t, c);
+    let answer = releases::release::release_step(s, states, lists, calls, queue, t, c);
     Ran { answer, device: d }
 }

@@ -7,7 +7,8 @@ use Prim.Native.Nat.{ℕ}
 use mathlib.Core.List.{List}
 use Rattle.rules.specs.declared.Call.{Call}
 use Rattle.rules.specs.Tables.{state, callOf}
-use Rattle.steps.specs.Ready.{Takes, Divides, Settles}
+use Rattle.takes.specs.Ready.{Takes, Divides}
+use Rattle.releases.specs.Ready.{Settles}
 use Rattle.steps.specs.GoesOn.{mine, looks, takes, divides, settles}
 use Rattle.steps.proofs.Branches.{asked, found, dividing, releasing}
 use Rattle.steps.proofs.go_on.go_on_step.Statement.{statement}

@@ -1,0 +1,4 @@
+pub mod Asks
+pub mod Blocks
+pub mod Gives
+pub mod Switches
