@@ -45,13 +45,20 @@ static void show_block(const char *what, size_t id) {
            SALTBALANCE_SIZE(id, TOP_SIZE), SALTBALANCE_OFFSET(id, TOP_SIZE));
 }
 
+/* Asks whether everything has come home. */
+static void expect_whole(size_t wanted) {
+    expect("whole", saltbalance_whole(device, shape, TABLES).number, wanted);
+    printf("Has everything come home? %s\n", wanted == SALTBALANCE_WHOLE ? "Yes." : "No.");
+}
+
 /* Goes on until the buffer is granted, and answers its id. */
 static size_t go_on_until_granted(void) {
     for (;;) {
         saltbalance_answer step = saltbalance_go_on(&device, shape, TABLES, THREAD);
         switch (step.number) {
         case SALTBALANCE_FOUND:
-            printf("  found: level %zu has a free block; nothing is held yet\n", step.detail);
+            printf("  found: level %zu has a free block; nothing is held yet, but a call is open\n", step.detail);
+            expect_whole(SALTBALANCE_NOT_WHOLE);
             break;
         case SALTBALANCE_TAKEN:
             show_block("taken", step.detail);
@@ -78,12 +85,6 @@ static void go_on_until_settled(void) {
         }
         show_block("merged with its three buddies", step.detail);
     }
-}
-
-/* Asks whether everything has come home. */
-static void expect_whole(size_t wanted) {
-    expect("whole", saltbalance_whole(device, shape, TABLES).number, wanted);
-    printf("Has everything come home? %s\n", wanted == SALTBALANCE_WHOLE ? "Yes." : "No.");
 }
 
 int main(void) {
