@@ -28,6 +28,17 @@ impl Device {
 /// How long a request may wait, in milliseconds: −1 forever, 0 not at all, or 1 to 600,000. Other numbers are refused.
 ///
 /// A tick is 10 milliseconds: a wait lasts its milliseconds / 10, rounded up, in ticks.
+///
+/// ```
+/// use saltbalance::{Answer, Millis, Pool, Refusal, Shape};
+///
+/// let mut pool = Pool::build(Shape { pool: 1, threads: 2, levels: 2, tops: 1, top_size: 64 })?;
+/// pool.switch(0)?;
+/// assert_eq!(pool.ask(0, 16, Millis(-2)), Err(Refusal::WaitOutside));
+/// assert_eq!(pool.ask(0, 16, Millis(11)), Ok(Answer::Opened));
+/// assert_eq!(pool.tables().calls[3], 2); // the deadline: two ticks from clock 0
+/// # Ok::<(), Refusal>(())
+/// ```
 #[derive(Clone, Copy, Debug, PartialEq, Eq, PartialOrd, Ord, Hash)]
 pub struct Millis(pub i32);
 

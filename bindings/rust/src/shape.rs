@@ -33,7 +33,7 @@ pub struct Shape {
     pub top_size: usize,
 }
 
-/// The length of each table of a pool, in elements.
+/// The length of each table of a pool, in elements, as [`Shape::lengths`] gives it.
 #[derive(Clone, Copy, Debug, PartialEq, Eq, Hash)]
 pub struct Lengths {
     /// A state for each block of each level.

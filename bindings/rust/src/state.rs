@@ -20,7 +20,7 @@ pub enum State {
     Allocating = 5,
 }
 
-/// What *cover* answers: the one undivided block over a byte.
+/// What *cover* answers: the one undivided block over a byte (see [`Pool::cover`](crate::Pool::cover)).
 #[derive(Clone, Copy, Debug, PartialEq, Eq, Hash)]
 pub struct Covered {
     /// The block.

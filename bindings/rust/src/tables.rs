@@ -53,6 +53,22 @@ pub struct Tables<'a> {
 }
 
 /// The five tables of a pool, lent for reading: enough for the questions.
+///
+/// ```
+/// use saltbalance::{Answer, Device, Id, Refusal, Shape, State, View};
+///
+/// let shape = Shape { pool: 1, threads: 1, levels: 1, tops: 2, top_size: 64 };
+/// let device = Device::default();
+///
+/// // Block 0 is thread 0's, block 1 is free.
+/// let view = View { states: &[0, 1], owners: &[1, 0], lists: &[1, 1, 0], calls: &[0; 6], queue: &[0; 2] };
+/// assert_eq!(view.whole(device, shape), Ok(Answer::NotWhole));
+/// assert_eq!(view.cover(device, shape, 0)?.state, State::Allocated);
+/// let mut row = [Id::default(); 2];
+/// assert_eq!(view.map(device, shape, &mut row), Ok(2));
+/// assert_eq!(row, [Id(1), Id(4097)]);
+/// # Ok::<(), Refusal>(())
+/// ```
 #[derive(Clone, Copy, Debug, PartialEq, Eq)]
 pub struct View<'a> {
     /// A state for each block: level 0 first, each level's blocks together.
