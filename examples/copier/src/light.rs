@@ -30,10 +30,7 @@ pub fn work(task: Task<'_>, job: &Job) -> Result<Shown, Halt> {
     let mut tenths_shown = 0;
     let mut moved = (Progress::default(), Instant::now());
     loop {
-        let (seen, done, stopped) = {
-            let shared = task.station.lock();
-            (Seen::now(&shared), shared.progress, shared.writer_stopped)
-        };
+        let (seen, done, stopped) = task.station.look(|shared| (Seen::now(shared), shared.progress, shared.writer_stopped))?;
         if tenths(&done, job) > tenths_shown && show_line(task, &words::progress(&done, job))? {
             tenths_shown = tenths(&done, job);
         }
@@ -91,7 +88,7 @@ fn watch(task: Task<'_>) -> Result<Shown, Halt> {
     let begin = Instant::now();
     let mut looks = 0;
     while begin.elapsed() < WATCH {
-        if Seen::now(&task.station.lock()).green() {
+        if task.station.look(Seen::now)?.green() {
             return Ok(Shown::Green);
         }
         looks += 1;

@@ -93,6 +93,15 @@ impl Station {
         result
     }
 
+    /// Looks at what is shared, unless the run is over.
+    pub fn look<T>(&self, view: impl FnOnce(&Shared) -> T) -> Result<T, Halt> {
+        let shared = self.lock();
+        if shared.over {
+            return Err(Halt::Over);
+        }
+        Ok(view(&shared))
+    }
+
     /// Tries again at each change until there is a result, or the run is over.
     pub fn until<T>(&self, mut trial: impl FnMut(&mut Shared) -> Option<T>) -> Result<T, Halt> {
         let mut shared = self.lock();
@@ -112,7 +121,7 @@ impl Station {
         self.changed.notify_all();
     }
 
-    /// Ends the run: every task ends at its next wait for an order.
+    /// Ends the run: every task ends at its next step or wait.
     pub fn end(&self) {
         self.change(|shared| shared.over = true);
     }

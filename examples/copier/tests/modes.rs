@@ -87,6 +87,21 @@ fn one_small_file_and_a_stopped_writer() {
 }
 
 #[test]
+fn a_drive_that_fails_ends_the_run() {
+    let folder = Folder::new("full");
+    let (from, to) = (folder.path("from"), folder.path("to"));
+    fs::create_dir(&from).unwrap();
+    fs::write(Path::new(&from).join("large"), vec![7; 400_000]).unwrap();
+    // A shell in which no file may grow beyond some 100 blocks, and writing more is an error.
+    let limited = "trap '' XFSZ; ulimit -f 100; exec \"$0\" \"$@\"";
+    let output = Command::new("sh").args(["-c", limited, env!("CARGO_BIN_EXE_copier"), &from, &to]).output().unwrap();
+    let errors = String::from_utf8_lossy(&output.stderr);
+    assert_eq!(output.status.code(), Some(1), "{errors}");
+    assert!(errors.contains("cannot write"), "{errors}");
+    assert!(!String::from_utf8_lossy(&output.stdout).contains("GREEN"));
+}
+
+#[test]
 fn wrong_command_lines_are_explained() {
     let folder = Folder::new("wrong");
     let (here, absent, inside) = (folder.path(""), folder.path("absent"), folder.path("inside"));
