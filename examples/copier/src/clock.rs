@@ -1,0 +1,14 @@
+//! The clock: a tick every 10 milliseconds, so that waits with a time end.
+
+use crate::station::{Halt, Station};
+use std::thread;
+use std::time::Duration;
+
+/// Ticks until the run is over.
+pub fn work(station: &Station) -> Result<(), Halt> {
+    while !station.is_over() {
+        thread::sleep(Duration::from_millis(10));
+        station.change(|shared| shared.pool.tick())?;
+    }
+    Ok(())
+}
