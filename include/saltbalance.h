@@ -5,7 +5,7 @@
  * precondition on numbers or contents: wrong lengths, wrong contents, a table that somebody wrote into, any number whatever give the
  * listed refusal, and a refusal alters nothing (but SALTBALANCE_NO_ROOM and SALTBALANCE_TIMED_OUT, which close the asker's own call).
  * What C itself asks remains: a pointer with length n points to n elements that are readable (writable where not const), the tables and
- * the record of one call do not overlap, and a pointer with length 0 may be anything, NULL too.
+ * the record of one call do not overlap, a pointer with length 0 may be anything, NULL too, and the record's pointer is never NULL.
  *
  * A buffer is taken step by step, so that no call holds the processor for long: `ask` opens a call, `go_on` makes its next step until it
  * answers SALTBALANCE_GRANTED, SALTBALANCE_NO_ROOM or SALTBALANCE_TIMED_OUT. A buffer goes home likewise: `give_back` opens a call,
@@ -46,7 +46,7 @@ typedef struct saltbalance_shape {
 #define SALTBALANCE_STATES(levels, tops) SALTBALANCE_BLOCKS(levels, tops)
 #define SALTBALANCE_OWNERS(levels, tops) SALTBALANCE_BLOCKS(levels, tops)
 #define SALTBALANCE_LISTS(levels, tops) ((size_t)(levels) + SALTBALANCE_BLOCKS(levels, tops))
-#define SALTBALANCE_CALLS(threads) ((size_t)6 * (threads))
+#define SALTBALANCE_CALLS(threads) ((size_t)6 * (size_t)(threads))
 #define SALTBALANCE_QUEUE(threads) ((size_t)(threads) + 1)
 
 /* Where a block starts, from its id, the shape's top size, and where the buffers start: its level is bits 8 to 11, its number bits 12 up. */
