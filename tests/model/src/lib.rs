@@ -4,5 +4,9 @@
 //! layout of the lent tables. The rest makes calls, tables and scripts, runs them on both sides and says
 //! where they differ.
 
+pub mod damage;
+pub mod entry;
+pub mod generate;
+pub mod random;
 pub mod rules;
 pub mod script;

@@ -1,0 +1,6 @@
+//! What both sides are tried on: shapes, valid tables, arguments, histories and scripts.
+
+pub mod arguments;
+pub mod history;
+pub mod shapes;
+pub mod states;
