@@ -4,9 +4,20 @@
 //! layout of the lent tables. The rest makes calls, tables and scripts, runs them on both sides and says
 //! where they differ.
 
+pub mod counts;
 pub mod damage;
 pub mod entry;
+pub mod events;
 pub mod generate;
+pub mod program;
 pub mod random;
 pub mod rules;
 pub mod script;
+pub mod settings;
+
+#[cfg(feature = "library")]
+pub mod calls;
+#[cfg(feature = "library")]
+pub mod compare;
+#[cfg(feature = "library")]
+pub mod library;

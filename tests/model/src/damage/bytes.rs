@@ -41,7 +41,7 @@ fn any(random: &mut Random) -> u64 {
     random.number() >> random.below(64)
 }
 
-fn few_cells(random: &mut Random, lent: &mut Lent) -> bool {
+pub fn few_cells(random: &mut Random, lent: &mut Lent) -> bool {
     for _ in 0..random.between(1, 3) {
         let number = if random.percent(50) { small(random) } else { any(random) };
         let (table, place) = (random.below(6), random.number() as usize);
@@ -84,7 +84,7 @@ fn everywhere_small(random: &mut Random, lent: &mut Lent) -> bool {
     true
 }
 
-fn everywhere(random: &mut Random, lent: &mut Lent) -> bool {
+pub fn everywhere(random: &mut Random, lent: &mut Lent) -> bool {
     (0..6).for_each(|table| fill(random, lent, table, any));
     true
 }

@@ -73,7 +73,7 @@ fn empty<const TABLE: usize>(_: &mut Random, lent: &mut Lent) -> bool {
     true
 }
 
-fn any_lengths(random: &mut Random, lent: &mut Lent) -> bool {
+pub fn any_lengths(random: &mut Random, lent: &mut Lent) -> bool {
     for _ in 0..random.between(1, 3) {
         let table = random.below(5);
         let length = if random.percent(30) { length(lent, (table + 1) % 5) } else { some_length(random) };
@@ -82,7 +82,7 @@ fn any_lengths(random: &mut Random, lent: &mut Lent) -> bool {
     true
 }
 
-fn not_allowed(random: &mut Random, lent: &mut Lent) -> bool {
+pub fn not_allowed(random: &mut Random, lent: &mut Lent) -> bool {
     lent.shape = shapes::not_allowed(random, &lent.shape);
     true
 }

@@ -86,3 +86,14 @@ pub fn sole_broken_line(lent: &Lent) -> Option<usize> {
     }
     first
 }
+
+/// A second damage, of a kind that any tables have a place for.
+pub fn once_more(random: &mut Random, lent: &mut Lent) {
+    let edits = [bytes::few_cells, lengths::any_lengths, lengths::not_allowed];
+    random.pick(&edits)(random, lent);
+}
+
+/// Arbitrary numbers in all tables of a right length, for the pool that is built over them.
+pub fn scribble(random: &mut Random, lent: &mut Lent) {
+    bytes::everywhere(random, lent);
+}

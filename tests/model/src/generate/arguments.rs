@@ -5,7 +5,7 @@
 use super::shapes::wild;
 use crate::entry::Entry;
 use crate::random::Random;
-use crate::rules::lent::{Lent, ALLOCATED};
+use crate::rules::lent::{Lent, ALLOCATED, DIVIDING, RELEASING};
 
 /// A call of the entry point with this place in `KINDS`.
 pub fn call(random: &mut Random, lent: &Lent, kind: usize) -> Entry {
@@ -89,7 +89,8 @@ fn id(random: &mut Random, lent: &Lent, thread: usize) -> usize {
             held(random, lent, mine).unwrap_or_else(|| block_id(random, lent))
         }
         5 | 6 => held(random, lent, |owner| owner != 0).unwrap_or_else(|| block_id(random, lent)),
-        7 | 8 => block_id(random, lent),
+        7 => in_hand(random, lent).unwrap_or_else(|| block_id(random, lent)),
+        8 => block_id(random, lent),
         9 => wild(random),
         _ => nearly_an_id(random, lent),
     }
@@ -106,6 +107,18 @@ pub fn held(random: &mut Random, lent: &Lent, likes: impl Fn(u8) -> bool) -> Opt
         .filter(|&(level, block)| lent.state(level, block) == ALLOCATED && likes(lent.owner(level, block)))
         .collect();
     random.pick_any(&blocks).map(|(level, block)| lent.shape.id(level, block))
+}
+
+/// The id of a block in the hand of some call, as the call's cells say.
+fn in_hand(random: &mut Random, lent: &Lent) -> Option<usize> {
+    let hands: Vec<usize> = lent
+        .tables
+        .calls
+        .chunks_exact(6)
+        .filter(|cells| [DIVIDING, RELEASING].contains(&cells[0]) && cells[4] < 16 && cells[5] < 1 << 20)
+        .map(|cells| lent.shape.pool % 256 + 256 * cells[4] as usize + 4096 * cells[5] as usize)
+        .collect();
+    random.pick_any(&hands)
 }
 
 /// The id of any block of the shape.

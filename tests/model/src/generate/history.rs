@@ -75,18 +75,20 @@ pub fn next(random: &mut Random, lent: &Lent, manners: &Manners) -> Entry {
     }
 }
 
-/// The running thread opens a call: it gives back a block of its own, or asks for one.
+/// The running thread opens a call: it gives back a block of its own, or asks for one. A thread that
+/// holds blocks does not wait for long, so that the others don't wait for it in vain.
 fn open(random: &mut Random, lent: &Lent, manners: &Manners, thread: usize) -> Entry {
-    if random.percent(manners.give) {
-        if let Some(id) = held(random, lent, |owner| owner as usize == thread + 1) {
-            return Entry::GiveBack { thread, id };
-        }
+    let own = held(random, lent, |owner| owner as usize == thread + 1);
+    if let (Some(id), true) = (own, random.percent(manners.give)) {
+        return Entry::GiveBack { thread, id };
     }
     let shape = &lent.shape;
     let level = if random.percent(manners.small) { shape.deepest() } else { random.below(shape.levels) };
     let size = shape.size(level) - random.pick(&[0, 0, 1, shape.size(level) / 2]);
     let wait = if !random.percent(manners.wait) {
         0
+    } else if own.is_some() {
+        random.pick(&[1, 10, 11, 20, 35, 50])
     } else if !random.percent(manners.timed) {
         -1
     } else {

@@ -2,5 +2,7 @@
 
 pub mod arguments;
 pub mod history;
+pub mod records;
+pub mod scripts;
 pub mod shapes;
 pub mod states;

@@ -29,7 +29,7 @@ impl Shape {
             && (1..=5).contains(&self.levels)
             && (1..=16).contains(&self.tops)
             && (1..=65_536).contains(&self.top_size)
-            && self.top_size % four_to(self.levels) == 0
+            && self.top_size.is_multiple_of(four_to(self.levels))
     }
 }
 
