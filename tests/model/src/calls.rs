@@ -4,14 +4,16 @@ use crate::compare::{compared, shown};
 use crate::counts::{Tally, Tried};
 use crate::damage::{self, Kind};
 use crate::entry::{After, Entry, KINDS};
-use crate::events::{events, EVENTS};
+use crate::events::{events, of_shape, EVENTS, SECOND_MERGE};
 use crate::generate::history::{next, Manners};
 use crate::generate::{arguments, shapes, states};
 use crate::random::Random;
+use crate::rules::answers::MERGED;
 use crate::rules::check_tables;
 use crate::rules::lent::{Lent, Record, Tables};
 use crate::rules::shape::Shape;
 use crate::settings::Settings;
+use std::panic::{catch_unwind, AssertUnwindSafe};
 
 /// The answers that each entry point can give, in the order of `KINDS`. Each must occur. Cover and map
 /// answer 0 where they refuse nothing.
@@ -38,6 +40,8 @@ struct Comparison {
     levels: Tally<usize>,
     threads: Tally<usize>,
     calls: u64,
+    /// Which threads' last step in the history was a merge.
+    merged: [bool; 8],
     /// Where the run stands, for the report of a difference.
     step: u64,
     doing: &'static str,
@@ -46,9 +50,12 @@ struct Comparison {
 /// Makes the runs and prints what was tried; an error says where the sides differ or what was missed.
 pub fn run(settings: Settings) -> Result<(), String> {
     let mut comparison = Comparison::new();
-    for run in settings.first..settings.first + settings.runs {
-        comparison.step = 0;
-        comparison.history(&mut Random::of_run(settings.seed, run)).map_err(|text| {
+    for run in settings.numbers() {
+        let mut random = Random::of_run(settings.seed, run);
+        // A rule that stops halfway is reported with its run and step, as a difference is.
+        let outcome = catch_unwind(AssertUnwindSafe(|| comparison.history(&mut random)));
+        let outcome = outcome.unwrap_or_else(|_| Err("the model stopped halfway\n".to_string()));
+        outcome.map_err(|text| {
             let (seed, step, doing) = (settings.seed, comparison.step, comparison.doing);
             format!(
                 "DIFFERENCE in seed {seed}, run {run}, step {step}, {doing}\n{text}\
@@ -72,6 +79,7 @@ impl Comparison {
             levels: Tally::of(&[1, 2, 3, 4, 5]),
             threads: Tally::of(&[1, 2, 3, 4, 5, 6, 7, 8]),
             calls: 0,
+            merged: [false; 8],
             step: 0,
             doing: "",
         }
@@ -92,8 +100,14 @@ impl Comparison {
     /// One run: a pool, its history, and damage on the way.
     fn history(&mut self, random: &mut Random) -> Result<(), String> {
         let shape = shapes::allowed(random);
+        self.step = 0;
+        self.merged = [false; 8];
         self.levels.note(shape.levels);
         self.threads.note(shape.threads);
+        for event in of_shape(&shape) {
+            self.events.note(event);
+        }
+        self.valid_states(random, &shape)?;
         let mut lent = self.beginning(random, &shape)?;
         let steps = match random.below(10) {
             0..=3 => random.between(5, 60),
@@ -112,6 +126,18 @@ impl Comparison {
                     lent = damaged;
                 }
             }
+        }
+        Ok(())
+    }
+
+    /// A few valid states: every entry point on each, damage to it, and a few steps from it.
+    fn valid_states(&mut self, random: &mut Random, shape: &Shape) -> Result<(), String> {
+        for _ in 0..random.below(4) {
+            self.doing = "at a valid state";
+            let lent = states::valid(random, shape);
+            self.every_entry(random, &lent)?;
+            self.damage(random, &lent)?;
+            self.few_steps(random, lent)?;
         }
         Ok(())
     }
@@ -141,7 +167,18 @@ impl Comparison {
         self.doing = "in the history";
         let entry = next(random, &lent, manners);
         let after = self.call(&entry, &lent)?;
+        self.note_merges(&entry, &after);
         Ok(Lent { shape: lent.shape, record: after.record, tables: after.tables })
+    }
+
+    /// Notes a merge that follows a merge of the same thread: one block given back, two levels up.
+    fn note_merges(&mut self, entry: &Entry, after: &After) {
+        let Entry::GoOn { thread: thread @ 0..=7 } = *entry else { return };
+        let merges = after.answer[0] == MERGED;
+        if merges && self.merged[thread] {
+            self.events.note(SECOND_MERGE);
+        }
+        self.merged[thread] = merges;
     }
 
     /// Damages a copy of valid tables and tries every entry point on it, then a few more steps if it is

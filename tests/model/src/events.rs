@@ -2,6 +2,10 @@
 
 use crate::entry::{After, Entry};
 use crate::rules::lent::*;
+use crate::rules::shape::Shape;
+
+/// The event of a second merge; which thread merged before is known to the history alone.
+pub const SECOND_MERGE: &str = "go on: a second merge of one release";
 
 /// The events' names. Each must occur.
 pub const EVENTS: &[&str] = &[
@@ -25,10 +29,22 @@ pub const EVENTS: &[&str] = &[
     "go on: waiting behind another",
     "go on: a merge from the deepest of several levels",
     "go on: a merge up to a top block",
+    SECOND_MERGE,
     "go on: a settle that wakes one",
     "go on: a settle that wakes several",
     "map: a row just long enough",
     "map: a longer row",
+    "shape: one top block",
+    "shape: 16 top blocks",
+    "shape: the least top size",
+    "shape: the greatest top size",
+    "shape refused: the pool number alone",
+    "shape refused: the threads alone",
+    "shape refused: the levels alone",
+    "shape refused: the top blocks alone",
+    "shape refused: the top size alone, zero",
+    "shape refused: the top size alone, above the most",
+    "shape refused: the top size alone, no multiple",
     "switch: from one thread to another",
     "tick: wakes one",
     "tick: wakes several",
@@ -39,6 +55,7 @@ pub const EVENTS: &[&str] = &[
 pub fn events(entry: &Entry, before: &Lent, after: &After) -> Vec<&'static str> {
     let [number, detail, state] = after.answer;
     match (entry, number) {
+        (_, 1) => refused_shape(&before.shape),
         (Entry::Ask { wait, .. }, 40) => {
             let end = u64::from(u32::MAX);
             let ticks = crate::rules::calls::ticks((*wait).max(0) as u32);
@@ -55,6 +72,40 @@ pub fn events(entry: &Entry, before: &Lent, after: &After) -> Vec<&'static str> 
         (Entry::Map { row }, 0) if row.len() == detail => vec!["map: a row just long enough"],
         (Entry::Map { .. }, 0) => vec!["map: a longer row"],
         _ => vec![],
+    }
+}
+
+/// What a history's shape is an example of.
+pub fn of_shape(shape: &Shape) -> Vec<&'static str> {
+    let least = 4usize.pow(shape.levels as u32);
+    let mut events = one_if(shape.tops == 1, "shape: one top block");
+    events.extend(one_if(shape.tops == 16, "shape: 16 top blocks"));
+    events.extend(one_if(shape.top_size == least, "shape: the least top size"));
+    events.extend(one_if(shape.top_size == 65_536, "shape: the greatest top size"));
+    events
+}
+
+/// The one field for which a shape was refused, if it is one alone: with that field mended the shape is
+/// allowed.
+fn refused_shape(shape: &Shape) -> Vec<&'static str> {
+    let least = 4usize.checked_pow(shape.levels as u32).unwrap_or(0);
+    let mended = [
+        (Shape { pool: 0, ..*shape }, "shape refused: the pool number alone"),
+        (Shape { threads: 1, ..*shape }, "shape refused: the threads alone"),
+        (Shape { levels: 1, ..*shape }, "shape refused: the levels alone"),
+        (Shape { tops: 1, ..*shape }, "shape refused: the top blocks alone"),
+        (Shape { top_size: least, ..*shape }, refused_top_size(shape.top_size)),
+    ];
+    let mut alone = mended.into_iter().filter(|(shape, _)| shape.allowed()).map(|(_, event)| event);
+    alone.next().into_iter().collect()
+}
+
+/// How a top size is outside its limits.
+fn refused_top_size(top_size: usize) -> &'static str {
+    match top_size {
+        0 => "shape refused: the top size alone, zero",
+        1..=65_536 => "shape refused: the top size alone, no multiple",
+        _ => "shape refused: the top size alone, above the most",
     }
 }
 

@@ -34,7 +34,7 @@ fn main() -> ExitCode {
 
 /// The runs of `model calls` that take some ten to twenty seconds.
 #[cfg(feature = "library")]
-const CALL_RUNS: u64 = 1000;
+const CALL_RUNS: u64 = 3000;
 
 #[cfg(feature = "library")]
 fn calls() -> Result<(), String> {

@@ -30,7 +30,7 @@ const TAGS: [&str; 8] =
 pub fn run(settings: Settings, program: &str) -> Result<(), String> {
     let mut answers: Vec<Tally<usize>> = MUST_OCCUR.iter().map(|answers| Tally::of(answers)).collect();
     let mut tried = vec![Tried::default(); KINDS.len()];
-    for run in settings.first..settings.first + settings.runs {
+    for run in settings.numbers() {
         let which = (run % KINDS.len() as u64) as usize;
         let script = (KINDS[which].make)(&mut Random::of_run(settings.seed, run));
         let expected = listing(&script);

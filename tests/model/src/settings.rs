@@ -1,6 +1,7 @@
 //! What a run is told from outside: the seed and the amount.
 
 use std::env;
+use std::ops::Range;
 
 /// Which runs to make.
 #[derive(Clone, Copy, Debug)]
@@ -22,6 +23,11 @@ fn number(variable: &str, usual: u64) -> Result<u64, String> {
 }
 
 impl Settings {
+    /// The numbers of the runs.
+    pub fn numbers(&self) -> Range<u64> {
+        self.first..self.first.saturating_add(self.runs)
+    }
+
     /// The settings from the environment, with this amount as the usual one.
     pub fn from_environment(usual_runs: u64) -> Result<Settings, String> {
         Ok(Settings {

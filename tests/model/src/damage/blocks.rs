@@ -7,6 +7,7 @@ use crate::rules::lent::*;
 pub const KINDS: &[Kind] = &[
     broken("a flipped state", flip),
     broken("a state above 5", above_five),
+    broken("a state above 5, list and owner following", rest_above_five),
     broken("four free buddies", four_free_buddies),
     broken("a divided block at the deepest level", deepest_divided),
     broken("a NOEXIST top block", top_does_not_exist),
@@ -75,6 +76,12 @@ fn above_five(random: &mut Random, lent: &mut Lent) -> bool {
     let state = lent.tables.states[place];
     lent.tables.states[place] = random.pick(&[6, 7, 8 + state, 128 + state, 248 + state, 255]);
     true
+}
+
+fn rest_above_five(random: &mut Random, lent: &mut Lent) -> bool {
+    let any = random.between(6, 255) as u8;
+    let state = random.pick(&[6, 7, 8, 9, 255, any]);
+    move_some(random, lent, state, |lent, level, block| at_rest(lent, level, block))
 }
 
 /// Divides a block at rest above the deepest level into these four quarters.

@@ -20,7 +20,9 @@ pub const KINDS: &[Kind] = &[
     broken("a found level deeper than the target", found_too_deep),
     still_valid("another found level", another_found_level),
     broken("a block in hand that is no block of the shape", hand_outside),
+    broken("a call opened on no block of the shape", opened_outside),
     broken("a block in hand in another state", hand_elsewhere),
+    broken("a call opened on a block in another state", opened_elsewhere),
     broken("a block in hand deeper than its target", hand_too_deep),
     broken("two calls on one block", two_on_one),
     broken("a block in nobody's hand", let_go),
@@ -161,16 +163,43 @@ fn another_found_level(random: &mut Random, lent: &mut Lent) -> bool {
     })
 }
 
+/// A hand beside this one that is outside the shape, in its level or in its block number.
+fn outside(random: &mut Random, lent: &Lent, cells: Cells) -> Cells {
+    let (levels, count) = (lent.shape.levels as u64, lent.shape.count(cells.level as usize) as u64);
+    if random.percent(50) {
+        let above = [levels, levels + 1, 256 + cells.level, (1 << 32) + cells.level, u64::MAX];
+        Cells { level: random.pick(&above), ..cells }
+    } else {
+        let above = [count, count + cells.block, 65_536 + cells.block, 1 << 63, u64::MAX];
+        Cells { block: random.pick(&above), ..cells }
+    }
+}
+
+/// A dividing or releasing call for the smallest block, with this one in hand.
+fn opened(random: &mut Random, level: usize, block: usize) -> Cells {
+    let stage = random.pick(&[DIVIDING, RELEASING]);
+    Cells { stage, level: level as u64, block: block as u64, ..Cells::default() }
+}
+
 fn hand_outside(random: &mut Random, lent: &mut Lent) -> bool {
-    change(random, lent, &[DIVIDING, RELEASING], |random, lent, cells| {
-        let (levels, count) = (lent.shape.levels as u64, lent.shape.count(cells.level as usize) as u64);
-        Some(if random.percent(50) {
-            let above = [levels, levels + 1, 256 + cells.level, (1 << 32) + cells.level, u64::MAX];
-            Cells { level: random.pick(&above), ..cells }
-        } else {
-            let above = [count, count + cells.block, 65_536 + cells.block, 1 << 63, u64::MAX];
-            Cells { block: random.pick(&above), ..cells }
-        })
+    change(random, lent, &[DIVIDING, RELEASING], |random, lent, cells| Some(outside(random, lent, cells)))
+}
+
+fn opened_outside(random: &mut Random, lent: &mut Lent) -> bool {
+    change(random, lent, &[CLOSED, ASKED, FOUND], |random, lent, _| {
+        let level = random.below(lent.shape.levels);
+        let block = random.below(lent.shape.count(level));
+        let inside = opened(random, level, block);
+        Some(outside(random, lent, inside))
+    })
+}
+
+fn opened_elsewhere(random: &mut Random, lent: &mut Lent) -> bool {
+    change(random, lent, &[CLOSED, ASKED, FOUND], |random, lent, _| {
+        let (level, block) = some_block(random, lent, |level, block| {
+            ![ALLOCATING, FREEING].contains(&lent.state(level, block))
+        })?;
+        Some(opened(random, level, block))
     })
 }
 

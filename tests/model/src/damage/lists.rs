@@ -10,6 +10,7 @@ pub const KINDS: &[Kind] = &[
     broken("a doubled list entry, appended", doubled_at_end),
     still_valid("list entries in another order", reordered),
     broken("a wrong list length", wrong_length),
+    broken("a length past the section of a full list", past_section),
     broken("a nonzero place behind a list's end", behind_end),
     broken("a list entry that is no block of its level", no_block),
     broken("a list entry for a block that is not FREE, in another's place", not_free_in_place),
@@ -82,6 +83,15 @@ fn wrong_length(random: &mut Random, lent: &mut Lent) -> bool {
     let wrong = [length.wrapping_sub(1), next, next, 0, count, count + 1, length | 0x100, 65_535, any];
     lent.tables.lists[level] = random.pick(&wrong);
     lent.tables.lists[level] != length
+}
+
+fn past_section(random: &mut Random, lent: &mut Lent) -> bool {
+    let count = lent.shape.count(0);
+    if lent.list_length(0) < count {
+        return false;
+    }
+    lent.tables.lists[0] = random.pick(&[count + 1, count + 2, 256 + count, 65_535]) as u16;
+    true
 }
 
 fn behind_end(random: &mut Random, lent: &mut Lent) -> bool {

@@ -10,6 +10,7 @@ pub const KINDS: &[Kind] = &[
     broken("a doubled queue entry", doubled),
     still_valid("queue entries in another order", reordered),
     broken("a wrong queue length", wrong_length),
+    broken("a length past the end of a full queue", past_end),
     broken("a nonzero cell behind the queue's end", behind_end),
     broken("a queue entry that is no thread", no_thread),
     broken("a waiting thread missing from the queue", missing),
@@ -65,6 +66,15 @@ fn wrong_length(random: &mut Random, lent: &mut Lent) -> bool {
     let wrong = [length.wrapping_sub(1), length + 1, length + 1, 0, threads, threads + 1, 255, any];
     lent.tables.queue[0] = random.pick(&wrong);
     lent.tables.queue[0] != length
+}
+
+fn past_end(random: &mut Random, lent: &mut Lent) -> bool {
+    let threads = lent.shape.threads;
+    if lent.queue_length() < threads {
+        return false;
+    }
+    lent.tables.queue[0] = random.pick(&[threads + 1, threads + 2, 128 + threads, 255]) as u8;
+    true
 }
 
 fn behind_end(random: &mut Random, lent: &mut Lent) -> bool {

@@ -75,9 +75,9 @@ pub fn wait(random: &mut Random) -> i32 {
         12..=14 => random.between(1, 60) as i32,
         15 => random.pick(&[1, 9, 10, 11, 20, 599_990, 599_991, 600_000]),
         16 => random.between(1, 600_000) as i32,
-        17 => random.pick(&[-2, -3, 600_001, 600_002, i32::MIN, i32::MIN + 1, i32::MAX, -65_536]),
-        18 => random.number() as i32,
-        _ => 0,
+        17 => random.pick(&[-2, 600_001]),
+        18 => random.pick(&[-3, 600_002, i32::MIN, i32::MIN + 1, i32::MAX, -65_536]),
+        _ => random.number() as i32,
     }
 }
 
@@ -135,7 +135,7 @@ fn nearly_an_id(random: &mut Random, lent: &Lent) -> usize {
     match random.below(6) {
         0 => id ^ 1,
         1 => id / 256 * 256 + random.below(256),
-        2 => (id & !0xF00) + 256 * random.pick(&[lent.shape.levels % 16, 5, 6, 15]),
+        2 => (id & !0xF00) + 256 * random.between(lent.shape.levels.min(15), 15),
         3 => id % 4096 + 4096 * count,
         4 => id + (1 << random.between(20, 63)),
         _ => id % 4096 + 4096 * random.below(1 << 20),

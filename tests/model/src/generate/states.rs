@@ -90,11 +90,13 @@ fn write_lists(random: &mut Random, lent: &mut Lent) {
 fn write_calls(random: &mut Random, lent: &mut Lent, hands: &[(usize, usize)]) {
     let mut threads: Vec<usize> = (0..lent.shape.threads).collect();
     random.shuffle(&mut threads);
+    let stages: &[u64] =
+        if random.once_in(6) { &[WAITING] } else { &[CLOSED, CLOSED, ASKED, FOUND, WAITING] };
     let mut waiting = Vec::new();
     for (place, &thread) in threads.iter().enumerate() {
         let cells = match hands.get(place) {
             Some(&hand) => with_hand(random, lent, hand),
-            None => without_hand(random, lent),
+            None => without_hand(random, lent, stages),
         };
         lent.set_cells(thread, cells);
         if cells.stage == WAITING {
@@ -120,9 +122,9 @@ fn with_hand(random: &mut Random, lent: &Lent, (level, block): (usize, usize)) -
     Cells { stage: DIVIDING, size: size as u64, ..hand }
 }
 
-/// A closed call, or one that has asked, found or waits.
-fn without_hand(random: &mut Random, lent: &Lent) -> Cells {
-    let stage = random.pick(&[CLOSED, CLOSED, ASKED, FOUND, WAITING]);
+/// A closed call, or one that has asked, found or waits: one of these stages.
+fn without_hand(random: &mut Random, lent: &Lent, stages: &[u64]) -> Cells {
+    let stage = random.pick(stages);
     if stage == CLOSED {
         return Cells::default();
     }

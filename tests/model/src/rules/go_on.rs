@@ -35,11 +35,8 @@ fn look(lent: &mut Lent, thread: usize) -> Outcome {
         close(lent, thread);
         return Err(TIMED_OUT);
     }
-    let has_free = |level: usize| {
-        let mut blocks = 0..lent.shape.count(level);
-        blocks.any(|block| lent.state(level, block) == FREE)
-    };
-    let deepest_free = (0..=target(lent, &cells)).rev().find(|&level| has_free(level));
+    let has_free = |level: &usize| lent.states_of(*level).contains(&FREE);
+    let deepest_free = (0..=target(lent, &cells)).rev().find(has_free);
     match deepest_free {
         Some(level) => {
             lent.set_cells(thread, Cells { stage: FOUND, level: level as u64, ..cells });

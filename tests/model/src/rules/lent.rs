@@ -93,8 +93,14 @@ impl Lent {
 
 /// Reading and writing by level, block and thread, once the shape is allowed and the lengths are right.
 impl Lent {
+    /// The states of a level's blocks, in the blocks' order.
+    pub fn states_of(&self, level: usize) -> &[u8] {
+        let start = self.shape.place(level, 0);
+        &self.tables.states[start..start + self.shape.count(level)]
+    }
+
     pub fn state(&self, level: usize, block: usize) -> u8 {
-        self.tables.states[self.shape.place(level, block)]
+        self.states_of(level)[block]
     }
 
     pub fn set_state(&mut self, level: usize, block: usize, state: u8) {

@@ -68,49 +68,48 @@ fn unused_fields_hold_zero(cells: &Cells) -> bool {
 /// "No top block is NOEXIST; the quarters of a DIVIDED block are not NOEXIST, those of any other block
 /// are; the deepest level has no DIVIDED block."
 fn divisions(lent: &Lent) -> bool {
-    let shape = &lent.shape;
-    let tops_exist = (0..shape.tops).all(|block| lent.state(0, block) != NOEXIST);
-    let quarters_right =
-        shape.every_block().filter(|&(level, _)| level < shape.deepest()).all(|(level, block)| {
-            let divided = lent.state(level, block) == DIVIDED;
-            (4 * block..4 * block + 4).all(|quarter| (lent.state(level + 1, quarter) != NOEXIST) == divided)
-        });
-    let deepest = shape.deepest();
-    let deepest_undivided = (0..shape.count(deepest)).all(|block| lent.state(deepest, block) != DIVIDED);
+    let deepest = lent.shape.deepest();
+    let tops_exist = lent.states_of(0).iter().all(|&state| state != NOEXIST);
+    let quarters_right = (0..deepest).all(|level| {
+        let deeper = lent.states_of(level + 1);
+        lent.states_of(level).iter().enumerate().all(|(block, &state)| {
+            let mut quarters = deeper[4 * block..4 * block + 4].iter();
+            quarters.all(|&quarter| (quarter != NOEXIST) == (state == DIVIDED))
+        })
+    });
+    let deepest_undivided = lent.states_of(deepest).iter().all(|&state| state != DIVIDED);
     tops_exist && quarters_right && deepest_undivided
 }
 
-/// "Below level 0, no four buddies are all FREE."
+/// "Below level 0, no four buddies are all FREE." Buddies are 4b to 4b + 3.
 fn no_four_free_buddies(lent: &Lent) -> bool {
     (1..lent.shape.levels).all(|level| {
-        (0..lent.shape.count(level - 1)).all(|parent| {
-            let mut buddies = 4 * parent..4 * parent + 4;
-            !buddies.all(|buddy| lent.state(level, buddy) == FREE)
-        })
+        let mut fours = lent.states_of(level).chunks(4);
+        fours.all(|buddies| !buddies.iter().all(|&state| state == FREE))
     })
 }
 
 /// "Each level's free list names each FREE block of that level once and nothing else."
 fn free_lists(lent: &Lent) -> bool {
     (0..lent.shape.levels).all(|level| {
-        let count = lent.shape.count(level);
-        let mut times_named = vec![0; count];
+        let states = lent.states_of(level);
+        let mut times_named = vec![0; states.len()];
         for member in lent.list(level) {
-            if member >= count {
+            if member >= states.len() {
                 return false;
             }
             times_named[member] += 1;
         }
-        (0..count).all(|block| times_named[block] == usize::from(lent.state(level, block) == FREE))
+        states.iter().zip(times_named).all(|(&state, times)| times == usize::from(state == FREE))
     })
 }
 
 /// "An ALLOCATED block has a thread as owner, every other block has none."
 fn owners(lent: &Lent) -> bool {
-    lent.shape.every_block().all(|(level, block)| {
-        let owner = lent.owner(level, block) as usize;
-        if lent.state(level, block) == ALLOCATED {
-            (1..=lent.shape.threads).contains(&owner)
+    let mut blocks = lent.tables.states.iter().zip(&lent.tables.owners);
+    blocks.all(|(&state, &owner)| {
+        if state == ALLOCATED {
+            (1..=lent.shape.threads).contains(&usize::from(owner))
         } else {
             owner == 0
         }
@@ -136,12 +135,14 @@ fn one_to_one(lent: &Lent, state: u8, stage: u64) -> bool {
     let in_shape = hands.iter().all(|&(level, block)| {
         level < lent.shape.levels as u64 && block < lent.shape.count(level as usize) as u64
     });
-    in_shape
-        && lent.shape.every_block().all(|(level, block)| {
-            let here = (level as u64, block as u64);
-            let times = hands.iter().filter(|&&hand| hand == here).count();
-            times == usize::from(lent.state(level, block) == state)
-        })
+    let times_in_hand = |level: usize, block: usize| {
+        hands.iter().filter(|&&hand| hand == (level as u64, block as u64)).count()
+    };
+    let each_once = (0..lent.shape.levels).all(|level| {
+        let mut blocks = lent.states_of(level).iter().enumerate();
+        blocks.all(|(block, &here)| times_in_hand(level, block) == usize::from(here == state))
+    });
+    in_shape && each_once
 }
 
 /// "The wait queue names each blocked thread once and nothing else; blocked threads are those whose call
