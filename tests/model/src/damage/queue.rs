@@ -88,12 +88,16 @@ fn behind_end(random: &mut Random, lent: &mut Lent) -> bool {
 }
 
 fn no_thread(random: &mut Random, lent: &mut Lent) -> bool {
-    let mut queue = lent.queue();
-    if queue.is_empty() {
+    let (mut queue, threads) = (lent.queue(), lent.shape.threads);
+    let beyond = random.pick(&[threads, threads, threads + 1, 8, 128, 255]);
+    if queue.len() < threads && random.percent(60) {
+        queue.insert(random.below(queue.len() + 1), beyond);
+    } else if !queue.is_empty() {
+        let position = random.below(queue.len());
+        queue[position] = beyond;
+    } else {
         return false;
     }
-    let (position, threads) = (random.below(queue.len()), lent.shape.threads);
-    queue[position] = random.pick(&[threads, threads + 1, 8, 255, 128 + queue[position]]);
     lent.set_queue(&queue);
     true
 }

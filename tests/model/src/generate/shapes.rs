@@ -80,16 +80,16 @@ fn spoil(random: &mut Random, shape: &mut Shape) {
     let far = wild(random);
     match random.below(5) {
         0 => shape.pool = random.pick(&[256, 257, 511, 4096, far]),
-        1 => shape.threads = random.pick(&[0, 9, 10, 255, 256, shape.threads.wrapping_add(256), far]),
+        1 => shape.threads = random.pick(&[0, 9, 9, 10, 255, 256, shape.threads.wrapping_add(256), far]),
         2 => {
             shape.levels = random.pick(&[0, 6, 6, 7, 8, 16, 31, 32, 33, 64, 1024, far]);
             // A top size that would do for six levels to eight.
             shape.top_size = random.pick(&[shape.top_size, 4096, 16_384, 65_536]);
         }
-        3 => shape.tops = random.pick(&[0, 17, 18, 256, shape.tops.wrapping_add(256), far]),
+        3 => shape.tops = random.pick(&[0, 17, 17, 18, 256, shape.tops.wrapping_add(256), far]),
         _ => {
             let by_one = shape.top_size.wrapping_add(random.pick(&[usize::MAX, 1]));
-            let larger = random.pick(&[65_537, 65_540, 66_560, 131_072, 1 << 32, 1 << 63]);
+            let larger = random.pick(&[65_537, 66_560, 66_560, 131_072, 1 << 32, 1 << 63]);
             let smaller = random.pick(&[0, 1, 2, 3, 4usize.pow(4), shape.top_size / 4]);
             shape.top_size = random.pick(&[by_one, larger, smaller, far]);
         }
