@@ -1,7 +1,7 @@
 //! An independent model of the pool, and what it takes to compare it with the proved library.
 //!
-//! `rules` and `script` are written from the papers alone, and share nothing with the library but the
-//! layout of the lent tables. The rest makes calls, tables and scripts, runs them on both sides and says
+//! `rules` and `script` follow the papers alone, and share nothing with the library but the layout of
+//! the lent tables. The rest makes calls, tables and scripts, runs them on both sides and says
 //! where they differ.
 
 pub mod counts;

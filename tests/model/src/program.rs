@@ -9,8 +9,8 @@ use std::io::{Read, Write};
 use std::process::{Command, Stdio};
 use std::thread;
 
-/// The answers that each tag can have, the last line standing for all tags above 7 and for 0. Each must
-/// occur. The clock's end is out of a script's reach.
+/// The answers that each tag from 1 to 7 can have, the line in front standing for all other tags. Each
+/// must occur. The clock's end is out of a script's reach.
 const MUST_OCCUR: [&[usize]; 8] = [
     &[17],
     &[1, 17, 53],

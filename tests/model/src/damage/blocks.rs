@@ -81,7 +81,7 @@ fn above_five(random: &mut Random, lent: &mut Lent) -> bool {
 fn rest_above_five(random: &mut Random, lent: &mut Lent) -> bool {
     let any = random.between(6, 255) as u8;
     let state = random.pick(&[6, 7, 8, 9, 255, any]);
-    move_some(random, lent, state, |lent, level, block| at_rest(lent, level, block))
+    move_some(random, lent, state, at_rest)
 }
 
 /// Divides a block at rest above the deepest level into these four quarters.

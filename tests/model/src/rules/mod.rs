@@ -1,4 +1,4 @@
-//! The rules of the pool, written from document 01 and from nothing else.
+//! The rules of the pool, after document 01 alone.
 //!
 //! Everything here is plain rather than quick: each rule is one function, in the paper's words and in
 //! the paper's order, on the same flat tables that the library is lent.

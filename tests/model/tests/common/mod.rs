@@ -20,7 +20,7 @@ pub fn number(outcome: Outcome) -> usize {
     number_and_detail(outcome).0
 }
 
-/// Switches to a thread and makes its call go on until the call ends; the last answer and its detail.
+/// Makes the running thread's call go on until it ends or waits; the last answer and its detail.
 pub fn to_the_end(lent: &mut Lent, thread: usize) -> (usize, usize) {
     loop {
         let answer = number_and_detail(go_on::go_on(lent, thread));
