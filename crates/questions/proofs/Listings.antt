@@ -8,10 +8,11 @@ use native.Mathlib.Nat.{add-zero, suc-mul, one-mul, mul-add, mul-one, mul-le-mul
 use native.Mathlib.Numerals.{add-one, sub-one}
 use native.Mathlib.Omega.{arith}
 use lib.ListN.{length, getD, set, length-append}
-use lib.Seq.{sets, set-out}
+use lib.Seq.{set-out}
 use lib.Dec.{eqb, ltb}
 use borrow.Author.Tests.{lt-ltb, ltb-true}
 use Rattle.laws.specs.Tests.{both}
+use Rattle.laws.specs.Sets.{sets-append}
 use Rattle.shape.specs.declared.Shape.{Shape}
 use Rattle.shape.specs.Limits.{parts}
 use Rattle.shape.specs.Blocks.{id, place}
@@ -24,13 +25,6 @@ use Rattle.questions.specs.Listing.{levelAbove, Listable, Listed}
 -- the test of a block below which there is a level
 pub deep : (depth : ℕ) (v : Bool) → (ltb 0 depth && v) ≡ true → 0 < depth
 deep depth v e = ltb-true 0 depth (both _ _ e .0)
-
-sets-append : (row xs ys : List ℕ) (at : ℕ) → sets row at (xs ++ ys) ≡ sets (sets row at xs) (at + length xs) ys
-sets-append row [] ys at = rw add-zero
-sets-append row (x ∷ xs) ys at = rw next (sets-append (set row at x) xs ys (suc at))
-  where
-    next : at + suc (length xs) ≡ suc at + length xs
-    next = omega arith
 
 -- nothing is listed, an id, and one run of ids behind another
 pub none : (row : List ℕ) (at : ℕ) → Listed row at [] at row
@@ -48,7 +42,7 @@ pub behind :
 behind {row} {between} {after} {xs} {ys} {at} p q =
     record {
       answered = omega (arith, p .answered, q .answered, length-append xs ys);
-      written = q .written ∙ rw (p .written, p .answered) (sym (sets-append row xs ys at));
+      written = q .written ∙ rw (p .written, p .answered) (sets-append row xs ys at);
     }
 
 -- one part more
