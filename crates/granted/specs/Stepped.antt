@@ -9,8 +9,7 @@ use Rattle.shape.specs.Time.{wait}
 use Rattle.rules.specs.declared.Call.{Call}
 use Rattle.rules.specs.declared.Answer.the-variants.{Opened}
 use Rattle.rules.specs.Numbers.{CLOSED, ASKED, NEVER}
-use Rattle.rules.specs.Tables.{State, lengths, putCall}
-use Rattle.rules.specs.Valid.{valid}
+use Rattle.rules.specs.Tables.{State, putCall}
 use Rattle.rules.specs.Room.{length-facts}
 use Rattle.rules.specs.Steps.{Outcome, outcome, onlyCall}
 use Rattle.rules.specs.Calls.{askStep, askedCall, ask, goOn}

@@ -9,7 +9,7 @@ use native.Mathlib.Omega.{arith}
 use lib.IntN.{ℤ}
 use lib.ListN.{getD, set}
 use lib.Dec.{eqb}
-use borrow.Author.Tests.{ltb-true, ltb-false, lt-ltb, le-ltb, eqb-true, eqb-false, eq-eqb, ne-eqb, not-false}
+use borrow.Author.Tests.{ltb-true, ltb-false, lt-ltb, eqb-true, eqb-false, eq-eqb, ne-eqb, not-false}
 use Rattle.laws.specs.Lists.{keep}
 use Rattle.shape.specs.declared.Shape.{Shape}
 use Rattle.shape.specs.Limits.{allowed}
@@ -116,40 +116,44 @@ pub record EachStep (P : Step → Outcome → Type 0) (s : Shape) (T : State) : 
   pub not-whole : P Whole (outcome answers.NotWhole T)
 
 module _ (P : Outcome → Type 0) (s : Shape) (T : State) (t : ℕ) (c : Call) (g : EachGoOn P s T t c) where
-  -- by the two ways of a test
+  -- by the two ways of a test, with what it says or without
   on-either : (b : Bool) (x y : Outcome) → (b ≡ true → P x) → (b ≡ false → P y) → P (cond b x y)
   on-either true x y f g = f refl
   on-either false x y f g = g refl
 
   either-way : (b : Bool) (x y : Outcome) → P x → P y → P (cond b x y)
-  either-way true x y p q = p
-  either-way false x y p q = q
+  either-way b x y p q = on-either b x y (λ _. p) (λ _. q)
 
-  -- asked: a timed call whose deadline the clock has reached does not block
+  -- asked: a timed call ends once the clock is past its deadline, and with the clock there it does not wait
   looks : c .stage ≡ ASKED → P (look s T t c)
   unfolding look lookAt noRoom
-  looks a = go (ℕ-discrete (c .wait) TIMED) (decLt (T .device .clock) (c .deadline)) (decLt (c .deadline) (T .device .clock))
+  looks a = go (ℕ-discrete (c .wait) TIMED) (decLt (c .deadline) (T .device .clock)) (decLt (T .device .clock) (c .deadline))
     where
-      timed : (r : Room) → c .wait ≡ TIMED → c .deadline ≡ T .device .clock → deepest (T .lists) (levelFor s (c .size)) ≡ r → P (lookAt s T t c r)
-      timed (At l) w d q = g .finds l a q
-      timed Nowhere w d q = rw (ne-eqb (c .wait) NEVER (omega arith), eq-eqb (c .wait) TIMED w, eq-eqb _ _ d) (g .ends TimedOut refl a)
-
-      other :
-          (r : Room) → (c .wait ≡ TIMED → T .device .clock < c .deadline) → deepest (T .lists) (levelFor s (c .size)) ≡ r →
-          P (lookAt s T t c r)
-      other (At l) k q = g .finds l a q
-      other Nowhere k q =
-          on-either (eqb (c .wait) NEVER) _ _ (λ _. g .ends NoRoom refl a) (λ n.
-          on-either (eqb (c .wait) TIMED && eqb (c .deadline) (T .device .clock)) _ _ (λ _. g .ends TimedOut refl a) (λ _. g .blocks a (eqb-false _ _ n) k))
+      late : P (outcome (Refused TimedOut) (onlyCall T t closed))
+      late = g .ends TimedOut refl a
 
       late-or : P (lookAt s T t c (deepest (T .lists) (levelFor s (c .size)))) → P (look s T t c)
-      late-or p = let e : P (outcome (Refused TimedOut) (onlyCall T t closed)) = g .ends TimedOut refl a in search either-way
+      late-or p = let q = late in search either-way
 
-      go : Dec (c .wait ≡ TIMED) → Dec (T .device .clock < c .deadline) → Dec (c .deadline < T .device .clock) → P (look s T t c)
-      go (yes w) (no h) (yes k) = rw (eq-eqb (c .wait) TIMED w, lt-ltb _ _ k) (g .ends TimedOut refl a)
-      go (yes w) (no h) (no k) = rw (eq-eqb (c .wait) TIMED w, le-ltb (c .deadline) (T .device .clock) (omega arith)) (timed _ w (omega arith) refl)
-      go (yes w) (yes h) k = late-or (other _ (λ _. h) refl)
-      go (no w) h k = late-or (other _ (λ q. absurd (w q)) refl)
+      due :
+          (r : Room) → deepest (T .lists) (levelFor s (c .size)) ≡ r → c .wait ≡ TIMED → c .deadline ≡ T .device .clock →
+          P (lookAt s T t c r)
+      due (At l) q w d = g .finds l a q
+      due Nowhere q w d = rw (ne-eqb (c .wait) NEVER (omega arith), eq-eqb (c .wait) TIMED w, eq-eqb _ _ d) late
+
+      other :
+          (r : Room) → deepest (T .lists) (levelFor s (c .size)) ≡ r → (c .wait ≡ TIMED → T .device .clock < c .deadline) →
+          P (lookAt s T t c r)
+      other (At l) q k = g .finds l a q
+      other Nowhere q k =
+          on-either (eqb (c .wait) NEVER) _ _ (λ _. g .ends NoRoom refl a) (λ n.
+          either-way (eqb (c .wait) TIMED && eqb (c .deadline) (T .device .clock)) _ _ late (g .blocks a (eqb-false _ _ n) k))
+
+      go : Dec (c .wait ≡ TIMED) → Dec (c .deadline < T .device .clock) → Dec (T .device .clock < c .deadline) → P (look s T t c)
+      go (yes w) (yes l) h = simp (eq-eqb (c .wait) TIMED w, lt-ltb _ _ l) late
+      go (yes w) (no l) (no h) = late-or (due _ refl w (omega arith))
+      go (yes w) (no l) (yes h) = late-or (other _ refl (λ _. h))
+      go (no w) l h = late-or (other _ refl (λ q. absurd (w q)))
 
   -- found: by the level's list
   takes : c .stage ≡ FOUND → P (takeStep s T t c)

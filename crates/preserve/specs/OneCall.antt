@@ -8,7 +8,7 @@ use native.Mathlib.Nat.{add-zero}
 use native.Mathlib.Decide.{decLt, ℕ-discrete}
 use native.Mathlib.Omega.{arith}
 use lib.ListN.{length, getD}
-use lib.Seq.{sets, length-sets, ext-getD}
+use lib.Seq.{length-sets, ext-getD}
 use lib.Dec.{eqb}
 use borrow.Author.Tests.{le-leb, eqb-true, eq-eqb, ne-eqb}
 use Rattle.laws.specs.Tests.{bit, every-at, every-of, tally}

@@ -16,7 +16,7 @@ use Rattle.rules.specs.Numbers.{DIVIDING}
 use Rattle.rules.specs.Tables.{State, callOf}
 use Rattle.rules.specs.Valid.{targetKept, sizeKept}
 use Rattle.rules.specs.Room.{CallFacts, hand-inside}
-use Rattle.rules.specs.Steps.{Outcome, takeFrom, splitStep, grantStep, merges, mergeStep, settleStep}
+use Rattle.rules.specs.Steps.{Outcome, takeFrom, splitStep, grantStep, mergeStep, settleStep}
 use Rattle.forest.specs.Requests.{levelFor-deepest}
 use Rattle.history.specs.History.{GoOn, stepOn, Step}
 use Rattle.history.specs.Running.{Running, own-facts}
