@@ -14,11 +14,12 @@ use Rattle.shape.specs.Limits.{allowed}
 use Rattle.shape.specs.Blocks.{size, place, blocks, bytes}
 use Rattle.shape.specs.Laws.{place-inside}
 use Rattle.rules.specs.Numbers.{ALLOCATED, FREE, FREEING, ALLOCATING}
-use Rattle.rules.specs.Tables.{State, lengths, stateAt, fresh}
+use Rattle.rules.specs.Tables.{State, stateAt, fresh}
 use Rattle.rules.specs.Valid.{statesKnown, valid}
 use Rattle.rules.specs.Facts.{valid-facts}
 use Rattle.rules.specs.Questions.{undivided}
-use Rattle.theorems.specs.History.{Step, stepOn, runSteps}
+use Rattle.history.specs.History.{Step, stepOn, runSteps}
+use Rattle.history.specs.Running.{Sound}
 use Rattle.preserve.specs.Histories.{steps-valid, runs-valid, histories-valid}
 use Rattle.conserve.specs.Pairs.{mapPairs}
 use Rattle.conserve.specs.Partition.{Standing, sizes, Follow, map-follows, map-bytes}
@@ -76,19 +77,16 @@ conserved s T a v =
     ∙ map-bytes s T a v
 
 -- so they do after a step
-pub step-conserves :
-    (s : Shape) (T : State) (x : Step) → allowed s ≡ true → lengths s T ≡ true → valid s T ≡ true →
-    bytesOfAll s (stepOn s T x .after .states) ≡ bytes s
-step-conserves s T x a l v = conserved s (stepOn s T x .after) a (steps-valid s T x a l v .1)
+pub step-conserves : (s : Shape) (T : State) (x : Step) → Sound s T → bytesOfAll s (stepOn s T x .after .states) ≡ bytes s
+step-conserves s T x k = conserved s (stepOn s T x .after) (k .shape) (steps-valid s T x k .valid)
 
 -- and after every step of a history that begins with valid tables
 pub run-conserves :
-    (s : Shape) (T : State) (xs : List Step) (n : ℕ) → allowed s ≡ true → lengths s T ≡ true → valid s T ≡ true →
-    bytesOfAll s (runSteps s T (take n xs) .states) ≡ bytes s
-run-conserves s T xs n a l v = conserved s (runSteps s T (take n xs)) a (runs-valid s (take n xs) a T l v .1)
+    (s : Shape) (T : State) (xs : List Step) (n : ℕ) → Sound s T → bytesOfAll s (runSteps s T (take n xs) .states) ≡ bytes s
+run-conserves s T xs n k = conserved s (runSteps s T (take n xs)) (k .shape) (runs-valid s (take n xs) T k .valid)
 
 -- as one that begins with fresh tables does
 pub history-conserves :
     (s : Shape) (xs : List Step) (n : ℕ) → allowed s ≡ true →
     bytesOfAll s (runSteps s (fresh s) (take n xs) .states) ≡ bytes s
-history-conserves s xs n a = conserved s (runSteps s (fresh s) (take n xs)) a (histories-valid s xs n a .1)
+history-conserves s xs n a = conserved s (runSteps s (fresh s) (take n xs)) a (histories-valid s xs n a .valid)

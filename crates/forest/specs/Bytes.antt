@@ -28,13 +28,22 @@ FreeRun s states k b = (y : ℕ) → offset s k b ≤ y → y < offset s k (b + 
 abbrev pub FreeBlock : Shape → List ℕ → ℕ → Type 0
 FreeBlock s states k = (l : ℕ) × (b : ℕ) × (l ≤ k) × (b < count s l) × (stateAt s states l b ≡ FREE)
 
+-- byte y is one of those of block b of level l
+abbrev pub HasByte : Shape → ℕ → ℕ → ℕ → Type 0
+HasByte s l b y = (offset s l b ≤ y) × (y < offset s l (b + 1))
+
 -- a byte lies in the block of a level that starts at the last multiple of the level's size before it
-pub lies-in :
-    (s : Shape) (l b y : ℕ) → 1 ≤ size s l → (y / size s l ≡ b) ↔ ((offset s l b ≤ y) × (y < offset s l (b + 1)))
+pub lies-in : (s : Shape) (l b y : ℕ) → 1 ≤ size s l → (y / size s l ≡ b) ↔ HasByte s l b y
 lies-in s l b y h = (inside, λ (k, q). div-eq-of-lt-le (size s l) k q)
   where
-    inside : y / size s l ≡ b → (offset s l b ≤ y) × (y < offset s l (b + 1))
+    inside : y / size s l ≡ b → HasByte s l b y
     inside e = rw (← e) (omega (arith, div-mul-le-self y (size s l), lt-div-mul-add {a = y} h))
+
+-- the bytes of a block are bytes of the pool
+pub byte-inside :
+    (s : Shape) (l b y : ℕ) → Limits s → l < s .levels → b < count s l → y < offset s l (b + 1) → y < bytes s
+byte-inside s l b y h k i n =
+    omega (arith, count-fills s l h k, mul-le-mul-right {m = b + 1} {n = count s l} (size s l) (omega arith))
 
 module _ (s : Shape) (states : List ℕ) (h : Limits s) where
   -- the same free bytes, runs and blocks, said of the blocks as trees
@@ -48,15 +57,12 @@ module _ (s : Shape) (states : List ℕ) (h : Limits s) where
       (k b : ℕ) → k < s .levels → b < count s k →
       FreeRun s states k b ↔ Run (s .levels) (size s) (stateIn s states) k b
   run-tree k b q i = (
-    λ r y e. let w = lies-in s k b y some .0 e in tree-free y (inside y (w .1)) (r y (w .0) (w .1)),
+    λ r y e. let w = lies-in s k b y some .0 e in tree-free y (byte-inside s k b y h q i (w .1)) (r y (w .0) (w .1)),
     λ r y m n. free-tree y (r y (lies-in s k b y some .1 (m, n))),
   )
     where
       some : 1 ≤ size s k
       some = size-some s k h q
-
-      inside : (y : ℕ) → y < offset s k (b + 1) → y < bytes s
-      inside y n = omega (arith, count-fills s k h q, mul-le-mul-right {m = b + 1} {n = count s k} (size s k) (omega arith))
 
   pub room-tree : (k : ℕ) → k < s .levels → FreeBlock s states k ↔ Room (stateIn s states) k
   room-tree k q = (

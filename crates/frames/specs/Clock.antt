@@ -3,7 +3,6 @@
 -- Assumes nothing.
 use mathlib.Core.Path.{_≡_, refl, ap}
 use mathlib.Core.Logic.{_⊎_, inl, inr}
-use mathlib.Core.List.{List, [], _∷_}
 use Prim.Native.Nat.{ℕ, _+_}
 use Rattle.shape.specs.declared.Shape.{Shape}
 use Rattle.rules.specs.declared.Call.{Call}
@@ -11,8 +10,8 @@ use Rattle.rules.specs.declared.Device.{Device}
 use Rattle.rules.specs.declared.Answer.the-variants.{Waiting}
 use Rattle.rules.specs.Tables.{State}
 use Rattle.rules.specs.Steps.{Outcome, takeFrom, splitStep, grantStep, mergeStep, settleStep}
-use Rattle.theorems.specs.History.{Step, Build, GoOn, Switch, Tick, stepOn}
-use Rattle.frames.specs.Walk.{EachGoOn, each-step}
+use Rattle.history.specs.History.{Step, Build, GoOn, Switch, Tick, stepOn}
+use Rattle.history.specs.Walk.{EachGoOn, each-step}
 
 -- the clock and who runs
 abbrev device : ℕ → ℕ → Device
@@ -35,30 +34,27 @@ go-on-record : (s : Shape) (T : State) (t : ℕ) (c : Call) → EachGoOn (Record
 unfolding takeFrom splitStep grantStep mergeStep settleStep
 go-on-record s T t c =
     record {
-      ends = λ r e. inl refl;
-      finds = λ l. inl refl;
-      blocks = inr (inr (inr (inr (t, refl, refl, refl))));
-      takes = taken;
-      splits = inl refl;
-      grants = λ d. inl refl;
-      merges = inl refl;
-      settles = inl refl;
+      ends = λ r e a. inl refl;
+      finds = λ l a q. inl refl;
+      blocks = λ a n d. inr (inr (inr (inr (t, refl, refl, refl))));
+      again = λ f. inl refl;
+      takes = λ b bs f q. inl refl;
+      splits = λ d h. inl refl;
+      grants = λ d h. inl refl;
+      settles = λ r e. inl refl;
+      merges = λ r e. inl refl;
     }
-  where
-    taken : (bs : List ℕ) → Record T (GoOn t) (takeFrom s T t c bs)
-    taken [] = inl refl
-    taken (b ∷ bs) = inl refl
 
 steps-record : (s : Shape) (T : State) (x : Step) → Record T x (stepOn s T x)
 steps-record s T =
     each-step (Record T) s T
     (record {
       stays = λ x r e. inl refl;
-      builds = inr (inl refl);
-      asks = λ t size ms. inl refl;
+      builds = λ a. inr (inl refl);
+      asks = λ t size ms g o h. inl refl;
       goes = λ t g. go-on-record s T t _;
-      gives = λ t i o. inl refl;
-      switches = λ t. inr (inr (inr (inl (t, refl, refl))));
+      gives = λ t i g o p a w. inl refl;
+      switches = λ t h w. inr (inr (inr (inl (t, refl, refl))));
       ticks = λ n k. inr (inr (inl (refl, refl)));
       whole = inl refl;
       not-whole = inl refl;

@@ -2,10 +2,8 @@
 -- byte.
 -- Assumes nothing.
 use mathlib.Core.Path.{_≡_, refl, sym, _∙_, ap, ap₂}
-use mathlib.Core.Bool.{Bool, true, false, not, _||_, Bool·beq, false≢true}
-use mathlib.Core.List.{List, [], _∷_}
-use Prim.Native.Nat.{ℕ, _+_, _-_, _/_, _≤_, _<_}
-use native.Mathlib.Nat.{mul-le-mul-right}
+use mathlib.Core.Bool.{true, not}
+use Prim.Native.Nat.{ℕ, _+_, _-_, _/_, _<_}
 use native.Mathlib.Decide.{decLt}
 use native.Mathlib.Omega.{arith}
 use lib.ListN.{getD, set, List·getD-eq-default}
@@ -15,22 +13,23 @@ use borrow.Author.Tests.{eqb-true, ne-eqb}
 use Rattle.laws.specs.Tests.{every-at, both}
 use Rattle.shape.specs.declared.Shape.{Shape}
 use Rattle.shape.specs.Limits.{allowed}
-use Rattle.shape.specs.Blocks.{size, count, offset, bytes, place, blocks}
+use Rattle.shape.specs.Blocks.{size, count, bytes, place, blocks}
 use Rattle.shape.specs.Laws.{Limits, limits}
-use Rattle.shape.specs.Offsets.{size-some, count-fills}
+use Rattle.shape.specs.Offsets.{size-some}
 use Rattle.rules.specs.declared.Call.{Call}
-use Rattle.rules.specs.Numbers.{ALLOCATED, ALLOCATING, DIVIDING, RELEASING}
-use Rattle.rules.specs.Tables.{State, lengths, stateAt}
+use Rattle.rules.specs.Numbers.{ALLOCATED, DIVIDING}
+use Rattle.rules.specs.Tables.{State, stateAt}
 use Rattle.rules.specs.Valid.{ownersKnown, valid}
 use Rattle.rules.specs.Steps.{Outcome, takeFrom, splitStep, grantStep, mergeStep, settleStep}
 use Rattle.rules.specs.Questions.{coverLevel}
-use Rattle.forest.specs.Bytes.{lies-in}
+use Rattle.forest.specs.Bytes.{HasByte, lies-in, byte-inside}
 use Rattle.forest.specs.Cover.{cover-one}
-use Rattle.theorems.specs.History.{Step, Build, GoOn, stepOn}
+use Rattle.history.specs.History.{Step, Build, GoOn, stepOn}
 use Rattle.preserve.specs.Lines.{Facts, facts}
-use Rattle.preserve.specs.Runs.{Runs, hand-is}
 use Rattle.preserve.specs.Histories.{steps-valid}
-use Rattle.frames.specs.Walk.{EachGoOn, EachStep, each-step}
+use Rattle.history.specs.Walk.{EachGoOn, EachStep, each-step}
+use Rattle.history.specs.Running.{Sound, Running, allocating}
+use Rattle.history.specs.Given.{alike}
 use Rattle.frames.specs.Others.{maker}
 
 -- thread u holds the block at place k
@@ -43,32 +42,23 @@ OwnerStays u k x o = (maker x ≡ u + 1 → ⊥) → (x ≡ Build → ⊥) → g
 
 module _ (s : Shape) (T : State) (u k : ℕ) (w : Holds T u k) where
   -- the block that is granted was ALLOCATING
-  go-on-owner : (t : ℕ) (c : Call) → Runs s T t c → EachGoOn (OwnerStays u k (GoOn t)) s T t c
+  go-on-owner : (t : ℕ) (c : Call) → Running s T t c → EachGoOn (OwnerStays u k (GoOn t)) s T t c
   unfolding takeFrom splitStep grantStep mergeStep settleStep
   go-on-owner t c g =
       record {
-        ends = λ r e _ _. w .1;
-        finds = λ l _ _. w .1;
-        blocks = λ _ _. w .1;
-        takes = taken;
-        splits = λ _ _. w .1;
-        grants = λ d _ _. getD-set-other (T .owners) (place s (c .level) (c .block)) k (t + 1) 0 (elsewhere d) ∙ w .1;
-        merges = λ _ _. w .1;
-        settles = λ _ _. w .1;
+        ends = λ r e a _ _. w .1;
+        finds = λ l a q _ _. w .1;
+        blocks = λ a n d _ _. w .1;
+        again = λ f _ _. w .1;
+        takes = λ b bs f q _ _. w .1;
+        splits = λ d h _ _. w .1;
+        grants = λ d h _ _. getD-set-other (T .owners) (place s (c .level) (c .block)) k (t + 1) 0 (elsewhere d) ∙ w .1;
+        settles = λ r e _ _. w .1;
+        merges = λ r e _ _. w .1;
       }
     where
-      taken : (bs : List ℕ) → OwnerStays u k (GoOn t) (takeFrom s T t c bs)
-      taken [] = λ _ _. w .1
-      taken (b ∷ bs) = λ _ _. w .1
-
       elsewhere : c .stage ≡ DIVIDING → k ≡ place s (c .level) (c .block) → ⊥
-      elsewhere d q = omega (arith, sym (w .0) ∙ ap (λ (n : ℕ). getD (T .states) n 0) q ∙ in-hand)
-        where
-          in-hand : stateAt s (T .states) (c .level) (c .block) ≡ ALLOCATING
-          in-hand =
-              hand-is g ALLOCATING DIVIDING (g .facts .threads .allocating)
-              (ap (λ (n : ℕ). eqb n DIVIDING || eqb n RELEASING) d)
-              d
+      elsewhere d q = omega (arith, sym (w .0) ∙ ap (λ (n : ℕ). getD (T .states) n 0) q ∙ allocating g d)
 
   -- the block that is given back was the giver's
   given-other :
@@ -80,12 +70,12 @@ module _ (s : Shape) (T : State) (u k : ℕ) (w : Holds T u k) where
   each-owner =
       record {
         stays = λ x r e _ _. w .1;
-        builds = λ _ n. absurd (n refl);
-        asks = λ t size ms _ _. w .1;
+        builds = λ a _ n. absurd (n refl);
+        asks = λ t size ms g o h _ _. w .1;
         goes = λ t g. go-on-owner t _ g;
-        gives = λ t i o n _. given-other t _ o n;
-        switches = λ t _ _. w .1;
-        ticks = λ n f _ _. w .1;
+        gives = λ t i g c p a o n _. given-other t _ o n;
+        switches = λ t h r _ _. w .1;
+        ticks = λ n v _ _. w .1;
         whole = λ _ _. w .1;
         not-whole = λ _ _. w .1;
       }
@@ -96,10 +86,8 @@ owned-allocated :
 unfolding ownersKnown
 owned-allocated s T u k f e =
     eqb-true _ _
-    (agree (eqb (getD (T .states) k 0) ALLOCATED) (eqb (getD (T .owners) k 0) 0)
-    (both (Bool·beq (eqb (getD (T .states) k 0) ALLOCATED) (not (eqb (getD (T .owners) k 0) 0))) _
-    (every-at (blocks s) _ (f .pool .owned) k inside) .0)
-    (ne-eqb (getD (T .owners) k 0) 0 (λ q. omega (arith, e, q))))
+    (alike (eqb (getD (T .states) k 0) ALLOCATED) _ (both _ _ (every-at (blocks s) _ (f .pool .owned) k inside) .0)
+    ∙ ap not (ne-eqb (getD (T .owners) k 0) 0 (λ q. omega (arith, e, q))))
   where
     inside : k < blocks s
     inside = go (decLt k (blocks s))
@@ -108,26 +96,17 @@ owned-allocated s T u k f e =
         go (yes h) = h
         go (no h) = absurd (omega (arith, e, List·getD-eq-default (T .owners) 0 {n = k} (omega (arith, f .pool .ownersLong))))
 
-    agree : (a b : Bool) → Bool·beq a (not b) ≡ true → b ≡ false → a ≡ true
-    agree true b q z = refl
-    agree false true q z = absurd (false≢true (sym z))
-    agree false false q z = absurd (false≢true q)
-
 -- what a thread holds it holds after every step of another thread
 pub holds-stay :
-    (s : Shape) (T : State) (x : Step) (u k : ℕ) → allowed s ≡ true → lengths s T ≡ true → valid s T ≡ true →
-    (maker x ≡ u + 1 → ⊥) → (x ≡ Build → ⊥) → Holds T u k → Holds (stepOn s T x .after) u k
-holds-stay s T x u k a l v n m w =
+    (s : Shape) (T : State) (x : Step) (u k : ℕ) → Sound s T → (maker x ≡ u + 1 → ⊥) → (x ≡ Build → ⊥) → Holds T u k →
+    Holds (stepOn s T x .after) u k
+holds-stay s T x u k v n m w =
     let owner = each-step (OwnerStays u k) s T (each-owner s T u k w) x n m in
-    (owned-allocated s (stepOn s T x .after) u k (facts s _ (steps-valid s T x a l v)) owner, owner)
+    (owned-allocated s (stepOn s T x .after) u k (facts (steps-valid s T x v)) owner, owner)
 
 -- thread u holds block b of level l
 abbrev pub HoldsBlock : Shape → State → ℕ → ℕ → ℕ → Type 0
 HoldsBlock s T u l b = (l < s .levels) × (b < count s l) × Holds T u (place s l b)
-
--- byte y is one of those of block b of level l
-abbrev pub HasByte : Shape → ℕ → ℕ → ℕ → Type 0
-HasByte s l b y = (offset s l b ≤ y) × (y < offset s l (b + 1))
 
 -- held blocks that share a byte are one block, held by one thread
 pub held-apart :
@@ -142,8 +121,7 @@ held-apart s T u v l b m d y a e p q h k = (level-same, block-same, omega (arith
     over l b i h = lies-in s l b y (size-some s l limit i) .1 h
 
     inside : y < bytes s
-    inside =
-        omega (arith, h .1, count-fills s l limit (p .0), mul-le-mul-right {m = b + 1} {n = count s l} (size s l) (omega (arith, p .1)))
+    inside = byte-inside s l b y limit (p .0) (p .1) (h .1)
 
     level :
         (l b : ℕ) → l < s .levels → HasByte s l b y → stateAt s (T .states) l b ≡ ALLOCATED →

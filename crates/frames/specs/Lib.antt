@@ -1,5 +1,3 @@
-pub mod Walk
-pub mod Refused
 pub mod Clock
 pub mod Others
 pub mod Held

@@ -3,7 +3,7 @@
 use mathlib.Core.Path.{_≡_, refl, sym, ap}
 use mathlib.Core.Bool.{Bool, true, false, cond}
 use mathlib.Core.Logic.{_⊎_, inl, inr}
-use mathlib.Core.List.{List, [], _∷_}
+use mathlib.Core.List.{List}
 use Prim.Native.Nat.{ℕ, zero, suc, _+_, _*_, _≤_, _<_}
 use native.Mathlib.Omega.{arith}
 use lib.ListN.{length}
@@ -18,11 +18,11 @@ use Rattle.rules.specs.Tables.{State, queueOf, callOf, putCall}
 use Rattle.rules.specs.Steps.{Outcome, closed, wake, takeFrom, splitStep, grantStep, mergeStep, settleStep}
 use Rattle.calls.specs.Call.{length-putCall, callOf-putCall-other}
 use Rattle.laws.specs.Changes.{times-keep}
-use Rattle.preserve.specs.Lines.{Facts}
+use Rattle.preserve.specs.Lines.{Facts, facts}
 use Rattle.preserve.specs.Queue.{named}
 use Rattle.preserve.specs.Woken.{woken, wake-other, wake-own}
-use Rattle.theorems.specs.History.{Step, Build, Ask, GoOn, Give, Switch, Tick, Whole, stepOn}
-use Rattle.frames.specs.Walk.{EachGoOn, EachStep, each-step}
+use Rattle.history.specs.History.{Step, Build, Ask, GoOn, Give, Switch, Tick, Whole, stepOn}
+use Rattle.history.specs.Walk.{EachGoOn, EachStep, each-step}
 
 -- whose step it is: t + 1 is thread t, and 0 is nobody
 abbrev pub maker : Step → ℕ
@@ -91,30 +91,27 @@ module _ (s : Shape) (T : State) (u : ℕ) (h : u < s .threads) where
   unfolding takeFrom splitStep grantStep mergeStep settleStep
   go-on-others t c k =
       record {
-        ends = λ r e n _. inl (put t _ n);
-        finds = λ l n _. inl (put t _ n);
-        blocks = λ n _. inl (put t _ n);
-        takes = taken;
-        splits = λ n _. inl (put t _ n);
-        grants = λ d n _. inl (put t _ n);
-        merges = λ n _. inl (put t _ n);
-        settles = λ n _. settled-stays t (λ q. n (ap (λ (k : ℕ). k + 1) (sym q))) k;
+        ends = λ r e a n _. inl (put t _ n);
+        finds = λ l a q n _. inl (put t _ n);
+        blocks = λ a m d n _. inl (put t _ n);
+        again = λ f n _. inl (put t _ n);
+        takes = λ b bs f q n _. inl (put t _ n);
+        splits = λ d h n _. inl (put t _ n);
+        grants = λ d h n _. inl (put t _ n);
+        settles = λ r e n _. settled-stays t (λ q. n (ap (λ (k : ℕ). k + 1) (sym q))) k;
+        merges = λ r e n _. inl (put t _ n);
       }
-    where
-      taken : (bs : List ℕ) → OtherStays T u (GoOn t) (takeFrom s T t c bs)
-      taken [] = λ n _. inl (put t _ n)
-      taken (b ∷ bs) = λ n _. inl (put t _ n)
 
   each-other : EachStep (OtherStays T u) s T
   each-other =
       record {
         stays = λ x r e _ _. inl refl;
-        builds = λ _ n. absurd (n refl);
-        asks = λ t size ms n _. inl (put t _ n);
-        goes = λ t g. go-on-others t _ (g .facts);
-        gives = λ t i o n _. inl (put t _ n);
-        switches = λ t _ _. inl refl;
-        ticks = λ n k _ _. ticked-stays _ k;
+        builds = λ a _ n. absurd (n refl);
+        asks = λ t size ms g o h n _. inl (put t _ n);
+        goes = λ t g. go-on-others t _ (facts (g .sound));
+        gives = λ t i g o p a w n _. inl (put t _ n);
+        switches = λ t h w _ _. inl refl;
+        ticks = λ n k _ _. ticked-stays _ (facts k);
         whole = λ _ _. inl refl;
         not-whole = λ _ _. inl refl;
       }

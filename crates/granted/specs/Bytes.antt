@@ -2,22 +2,23 @@
 -- Assumes nothing.
 use mathlib.Core.Path.{_≡_, refl, sym, _∙_, ap}
 use mathlib.Core.Logic.{_⊎_, inl, inr, _≢_, _↔_}
-use mathlib.Core.List.{List, _∷_}
-use Prim.Native.Nat.{ℕ, zero, suc, _+_, _*_, _-_, _/_, _%_, _<_}
+use mathlib.Core.List.{List}
+use Prim.Native.Nat.{ℕ, zero, suc, _+_, _*_, _/_, _%_, _<_}
 use native.Mathlib.Nat.{div-add-mod, mod-lt}
 use native.Mathlib.Decide.{ℕ-discrete}
 use native.Mathlib.Numerals.{add-one}
 use native.Mathlib.Omega.{arith}
-use lib.ListN.{length, getD, set, replicate, length-replicate, getD-replicate}
+use lib.ListN.{length, getD, set}
 use lib.Seq.{getD-set-same, getD-set-other}
 use Rattle.shape.specs.declared.Shape.{Shape}
 use Rattle.shape.specs.Limits.{parts}
 use Rattle.shape.specs.Blocks.{size, count, place, blocks, bytes}
 use Rattle.shape.specs.Laws.{Limits, parts-pos, place-once, place-inside}
 use Rattle.shape.specs.Offsets.{over-inside}
-use Rattle.rules.specs.Numbers.{FREE, DIVIDED, ALLOCATING}
+use Rattle.rules.specs.Numbers.{FREE, DIVIDED}
 use Rattle.rules.specs.Tables.{stateAt}
 use Rattle.laws.specs.Changes.{part-of}
+use Rattle.preserve.specs.Splits.{split, split-later}
 use Rattle.preserve.specs.Family.{Family, family, by-family, family-own, family-part, family-rest}
 use Rattle.forest.specs.Tree.{parent}
 use Rattle.forest.specs.Tables.{sizesOf}
@@ -170,13 +171,7 @@ module _ (s : Shape) (states : List ℕ) (l b : ℕ) (vs : List ℕ) (m : Limits
       from (inl (k, q, e)) = pick k q (came k (y / size s k) (over-inside s k y m q h) e)
       from (inr w) = inr (sym (over y) ∙ ap (λ (n : ℕ). n / parts s) w ∙ first)
 
--- what the parts of a block in hand become where it is split
-abbrev pub split : Shape → List ℕ
-split s = ALLOCATING ∷ replicate (parts s - 1) FREE
-
-pub split-wide : (s : Shape) → length (split s) ≡ parts s
-split-wide s = omega (arith, length-replicate (parts s - 1) FREE, parts-pos s)
-
+-- where a block is split all its parts but the first become FREE
 pub split-part : (s : Shape) (j : ℕ) → j < parts s → (j ≡ 0) ⊎ (getD (split s) j 0 ≡ FREE)
 split-part s zero h = inl refl
-split-part s (suc j) h = inr (getD-replicate (parts s - 1) j FREE 0 (omega arith))
+split-part s (suc j) h = inr (split-later s j h)

@@ -1,11 +1,11 @@
 -- A thread with a block in hand goes on: it splits until the block is of the level for its size, and is granted that block.
 -- Assumes nothing.
 use mathlib.Core.Path.{_≡_, refl, sym, _∙_, ap}
-use mathlib.Core.Bool.{Bool, true, false, cond}
+use mathlib.Core.Bool.{Bool, true, false}
 use Prim.Native.Nat.{ℕ, zero, suc, _+_, _*_, _≤_, _<_}
 use native.Mathlib.Omega.{arith}
 use lib.Dec.{ltb}
-use borrow.Author.Tests.{lt-ltb, le-ltb, ltb-true, ltb-false}
+use borrow.Author.Tests.{ltb-true, ltb-false}
 use Rattle.shape.specs.declared.Shape.{Shape}
 use Rattle.shape.specs.Limits.{parts}
 use Rattle.shape.specs.Blocks.{id, levelFor}
@@ -13,44 +13,35 @@ use Rattle.rules.specs.declared.Call.{Call}
 use Rattle.rules.specs.declared.Answer.the-variants.{Granted}
 use Rattle.rules.specs.Numbers.{DIVIDING}
 use Rattle.rules.specs.Tables.{State}
-use Rattle.rules.specs.Steps.{Outcome, closed, holding, splitStep, grantStep, divideStep, goOnStep}
+use Rattle.rules.specs.Steps.{Outcome, closed, holding, splitStep, grantStep}
 use Rattle.rules.specs.Calls.{goOn}
-use Rattle.granted.specs.Alone.{Alone, goOn-running, goOn-alone}
+use Rattle.history.specs.Running.{Running, splits, grants}
+use Rattle.granted.specs.Stepped.{goOn-runs}
 use Rattle.granted.specs.Until.{Ended, until, until-ended, until-open}
 
 -- a thread's call, dividing for this size with block b of level l in hand
 abbrev pub dividing : ℕ → ℕ → ℕ → Call
 dividing size l b = holding DIVIDING size l b
 
-module _ (s : Shape) (T : State) (t size l b : ℕ) (g : Alone s T t (dividing size l b)) where
-  pub divides : goOn s T t ≡ cond (ltb l (levelFor s size)) (splitStep s T t (dividing size l b)) (grantStep s T t (dividing size l b))
-  unfolding goOnStep divideStep
-  divides = goOn-running s T t (dividing size l b) g (λ e. omega arith)
-
+module _ (s : Shape) (T : State) (t size l b : ℕ) (g : Running s T t (dividing size l b)) where
   -- above its level the block is split, and its first part is in hand
-  pub splits : l < levelFor s size → goOn s T t ≡ splitStep s T t (dividing size l b)
-  splits h = divides ∙ rw (lt-ltb l (levelFor s size) h)
-
-  pub split-alone :
-      l < levelFor s size → Alone s (splitStep s T t (dividing size l b) .after) t (dividing size (l + 1) (parts s * b))
+  pub split-runs :
+      l < levelFor s size → Running s (splitStep s T t (dividing size l b) .after) t (dividing size (l + 1) (parts s * b))
   unfolding splitStep
-  split-alone h =
-      goOn-alone s T t (dividing size l b) g _ (dividing size (l + 1) (parts s * b)) (ap (λ (o : Outcome). o .after) (splits h)) refl refl
+  split-runs h =
+      goOn-runs s T t (dividing size l b) g _ (dividing size (l + 1) (parts s * b)) (ap (λ (o : Outcome). o .after) (splits g refl h)) refl refl
 
   -- at its level it is granted, and the call ends
-  pub grants : levelFor s size ≤ l → goOn s T t ≡ grantStep s T t (dividing size l b)
-  grants h = divides ∙ rw (le-ltb l (levelFor s size) h)
-
-  pub grant-alone : levelFor s size ≤ l → Alone s (grantStep s T t (dividing size l b) .after) t closed
+  pub grant-runs : levelFor s size ≤ l → Running s (grantStep s T t (dividing size l b) .after) t closed
   unfolding grantStep
-  grant-alone h =
-      goOn-alone s T t (dividing size l b) g _ closed (ap (λ (o : Outcome). o .after) (grants h)) refl refl
+  grant-runs h =
+      goOn-runs s T t (dividing size l b) g _ closed (ap (λ (o : Outcome). o .after) (grants g refl h)) refl refl
 
 -- the call was granted a block of the level for its size, from tables of which P holds with that block in hand
 pub record Grant (s : Shape) (t size : ℕ) (P : State → ℕ → Type 0) (o : Outcome) : Type 0 where
   pub tables : State
   pub block : ℕ
-  pub alone : Alone s tables t (dividing size (levelFor s size) block)
+  pub runs : Running s tables t (dividing size (levelFor s size) block)
   pub held : P tables block
   pub is : o ≡ grantStep s tables t (dividing size (levelFor s size) block)
 
@@ -58,16 +49,16 @@ pub record Grant (s : Shape) (t size : ℕ) (P : State → ℕ → Type 0) (o : 
 -- the thread goes on once for each level between, and once more
 module _ (s : Shape) (t size : ℕ) (P : State → ℕ → ℕ → Type 0)
     (next :
-    (T : State) (l b : ℕ) → Alone s T t (dividing size l b) → l < levelFor s size → P T l b →
+    (T : State) (l b : ℕ) → Running s T t (dividing size l b) → l < levelFor s size → P T l b →
     P (splitStep s T t (dividing size l b) .after) (l + 1) (parts s * b)) where
   -- n more go-on steps reach the grant from every block in hand that is less than n levels above its level
   abbrev Reaches : ℕ → Type 0
   Reaches n =
-      (l b : ℕ) (o : Outcome) → Alone s (o .after) t (dividing size l b) → P (o .after) l b → l ≤ levelFor s size →
+      (l b : ℕ) (o : Outcome) → Running s (o .after) t (dividing size l b) → P (o .after) l b → l ≤ levelFor s size →
       levelFor s size < l + n → Grant s t size (λ T b. P T (levelFor s size) b) (until s t n o)
 
   one-more :
-      (n : ℕ) → Reaches n → (T : State) (l b : ℕ) → Alone s T t (dividing size l b) → P T l b → l ≤ levelFor s size →
+      (n : ℕ) → Reaches n → (T : State) (l b : ℕ) → Running s T t (dividing size l b) → P T l b → l ≤ levelFor s size →
       levelFor s size < l + suc n → Grant s t size (λ T b. P T (levelFor s size) b) (until s t n (goOn s T t))
   one-more n more T l b g p h k = pick (ltb l (levelFor s size)) refl
     where
@@ -76,19 +67,19 @@ module _ (s : Shape) (t size : ℕ) (P : State → ℕ → ℕ → Type 0)
           Grant s t size (λ T b. P T (levelFor s size) b) (until s t n (goOn s T t))
       pick true e =
           let w = ltb-true l (levelFor s size) e in
-          rw (splits s T t size l b g w)
-          (more (l + 1) (parts s * b) _ (split-alone s T t size l b g w) (next T l b g w p) (omega arith) (omega arith))
+          rw (splits g refl w)
+          (more (l + 1) (parts s * b) _ (split-runs s T t size l b g w) (next T l b g w p) (omega arith) (omega arith))
       pick false e =
           let w = ltb-false l (levelFor s size) e in
           let q : l ≡ levelFor s size = omega arith in
-          rw (grants s T t size l b g w)
+          rw (grants g refl w)
           (record {
             tables = T;
             block = b;
-            alone = rw q at g;
+            runs = rw q at g;
             held = rw q at p;
             is =
-                until-ended s t n _ (ap (λ (c : Call). c .stage) (grant-alone s T t size l b g w .own))
+                until-ended s t n _ (ap (λ (c : Call). c .stage) (grant-runs s T t size l b g w .own))
                 ∙ ap (λ (m : ℕ). grantStep s T t (dividing size m b)) q;
           })
 
@@ -114,4 +105,4 @@ module _ (s : Shape) (t size : ℕ) (P : State → ℕ → Type 0) (o : Outcome)
   pub grant-ended : Ended t o
   grant-ended =
       rw (r .is)
-      (ap (λ (c : Call). c .stage) (grant-alone s (r .tables) t size (levelFor s size) (r .block) (r .alone) (omega arith) .own))
+      (ap (λ (c : Call). c .stage) (grant-runs s (r .tables) t size (levelFor s size) (r .block) (r .runs) (omega arith) .own))

@@ -13,14 +13,14 @@ use Rattle.rules.specs.declared.Room.the-variants.{At, Nowhere}
 use Rattle.rules.specs.declared.Refusal.the-variants.{NoRoom}
 use Rattle.rules.specs.declared.Answer.the-variants.{Refused, Granted}
 use Rattle.rules.specs.Tables.{State}
-use Rattle.rules.specs.Steps.{Outcome, outcome, closed, onlyCall, deepest}
+use Rattle.rules.specs.Steps.{Outcome, outcome, deepest}
 use Rattle.forest.specs.Bytes.{FreeByte, FreeRun, FreeBlock}
 use Rattle.forest.specs.RoomBytes.{room-bytes}
 use Rattle.forest.specs.Found.{found-room}
 use Rattle.forest.specs.Requests.{room-smaller}
 use Rattle.granted.specs.Until.{Ended, request}
 use Rattle.granted.specs.Divides.{Grant, grant-answer, grant-ended}
-use Rattle.granted.specs.Request.{Asks, asked, request-nowhere, request-granted}
+use Rattle.granted.specs.Request.{Asks, request-nowhere, request-granted}
 
 -- the request was granted a block
 abbrev pub IsGranted : Outcome → Type 0
@@ -36,10 +36,10 @@ pub record Granting (s : Shape) (T : State) (t size : ℕ) : Type 0 where
   pub granted : IsGranted (request s T t size)
   pub ended : Ended t (request s T t size)
 
--- there is none, and it ends with no room: it alters its own call alone
+-- there is none, and it ends with no room: nothing has changed
 pub record Refusing (s : Shape) (T : State) (t size : ℕ) : Type 0 where
   pub full : FreeBlock s (T .states) (levelFor s size) → ⊥
-  pub refused : request s T t size ≡ outcome (Refused NoRoom) (onlyCall (asked T t size) t closed)
+  pub refused : request s T t size ≡ outcome (Refused NoRoom) T
   pub ended : Ended t (request s T t size)
 
 pub no-grant : (o : Outcome) → o .answer ≡ Refused NoRoom → IsGranted o → ⊥
@@ -47,10 +47,10 @@ no-grant o e (i, q) = let z : _≡_ {A = ℕ} 0 1 = cc in omega arith
 
 module _ (s : Shape) (T : State) (t size : ℕ) (a : Asks s T t size) where
   inside : levelFor s size < s .levels
-  inside = levelFor-inside s size (limits s (a .alone .shape) .levels .0)
+  inside = levelFor-inside s size (limits s (a .runs .sound .shape) .levels .0)
 
   block-found : ((l : ℕ) × (deepest (T .lists) (levelFor s size) ≡ At l)) ↔ FreeBlock s (T .states) (levelFor s size)
-  block-found = found-room s T (a .alone .lengths) (a .alone .valid) (levelFor s size) inside
+  block-found = found-room s T (a .runs .sound .lengths) (a .runs .sound .valid) (levelFor s size) inside
 
   -- the request ends in one of two ways, by what its look finds
   ends : (r : Room) → deepest (T .lists) (levelFor s size) ≡ r → Granting s T t size ⊎ Refusing s T t size
@@ -66,7 +66,7 @@ module _ (s : Shape) (T : State) (t size : ℕ) (a : Asks s T t size) where
       grant = request-granted s T t size a l e (λ U l b. Unit {0}) (λ U l b g h p. tt) (λ b bs q. tt)
   ends Nowhere e =
       let n = request-nowhere s T t size a e in
-      inr (record { full = λ f. none (block-found .1 f); refused = n .0; ended = n .1 })
+      inr (record { full = λ f. none (block-found .1 f); refused = n; ended = rw n (a .isClosed) })
     where
       none : (l : ℕ) × (deepest (T .lists) (levelFor s size) ≡ At l) → ⊥
       none (l, q) = let z : _≡_ {A = ℕ} 0 1 = cc in omega arith
@@ -88,14 +88,13 @@ module _ (s : Shape) (T : State) (t size : ℕ) (a : Asks s T t size) where
 
   -- it is granted exactly where such a run is free
   pub granted-exactly : IsGranted (request s T t size) ↔ HasRun s T size
-  granted-exactly = Iff·trans granted-block (room-bytes s T (a .alone .shape) (a .alone .valid) (levelFor s size) inside)
+  granted-exactly = Iff·trans granted-block (room-bytes s T (a .runs .sound .shape) (a .runs .sound .valid) (levelFor s size) inside)
 
-  -- else it ends with no room, and alters its own call alone
-  pub refused-else :
-      (HasRun s T size → ⊥) → request s T t size ≡ outcome (Refused NoRoom) (onlyCall (asked T t size) t closed)
+  -- else it ends with no room, and tables and record are as they were before it was asked
+  pub refused-else : (HasRun s T size → ⊥) → request s T t size ≡ outcome (Refused NoRoom) T
   refused-else n = go (ends _ refl)
     where
-      go : Granting s T t size ⊎ Refusing s T t size → request s T t size ≡ outcome (Refused NoRoom) (onlyCall (asked T t size) t closed)
+      go : Granting s T t size ⊎ Refusing s T t size → request s T t size ≡ outcome (Refused NoRoom) T
       go (inl x) = absurd (n (granted-exactly .0 (x .granted)))
       go (inr x) = x .refused
 
@@ -106,5 +105,5 @@ pub more-room :
     IsGranted (request s T t size) → IsGranted (request s U u less)
 more-room s T U t u less size a b f h i =
     granted-block s U u less b .1
-    (room-smaller s T U (a .alone .shape) (a .alone .valid) (b .alone .valid) f less size h (a .fits)
+    (room-smaller s T U (a .runs .sound .shape) (a .runs .sound .valid) (b .runs .sound .valid) f less size h (a .fits)
     (granted-block s T t size a .0 i))

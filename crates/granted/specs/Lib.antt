@@ -1,4 +1,4 @@
-pub mod Alone
+pub mod Stepped
 pub mod Until
 pub mod Divides
 pub mod Takes

@@ -19,7 +19,8 @@ use Rattle.rules.specs.ListLaws.{length-freeList}
 use Rattle.rules.specs.Room.{length-facts, list-short}
 use Rattle.rules.specs.Steps.{Outcome, outcome, closed, onlyCall, deepest, noRoom, lookAt, look, takeFrom, takeStep, goOnStep}
 use Rattle.rules.specs.Calls.{goOn}
-use Rattle.granted.specs.Alone.{Alone, asking, goOn-running, goOn-alone}
+use Rattle.history.specs.Running.{Running, goes}
+use Rattle.granted.specs.Stepped.{asking, goOn-runs}
 use Rattle.granted.specs.Divides.{dividing}
 
 -- a call that may not wait and has found level l
@@ -27,10 +28,10 @@ abbrev pub finding : ℕ → ℕ → Call
 finding size l = record { stage = FOUND; size = size; wait = NEVER; deadline = 0; level = l; block = 0 }
 
 -- asked: it looks from the level for its size upward
-module _ (s : Shape) (T : State) (t size : ℕ) (g : Alone s T t (asking size)) where
+module _ (s : Shape) (T : State) (t size : ℕ) (g : Running s T t (asking size)) where
   pub looks : goOn s T t ≡ lookAt s T t (asking size) (deepest (T .lists) (levelFor s size))
   unfolding goOnStep look
-  looks = goOn-running s T t (asking size) g (λ e. omega arith)
+  looks = goes g (λ e. omega arith)
 
   -- with room at no level the call ends, and nothing else changes
   pub looks-nowhere :
@@ -38,30 +39,27 @@ module _ (s : Shape) (T : State) (t size : ℕ) (g : Alone s T t (asking size)) 
   unfolding lookAt noRoom
   looks-nowhere e = looks ∙ rw e
 
-  pub nowhere-alone : deepest (T .lists) (levelFor s size) ≡ Nowhere → Alone s (onlyCall T t closed) t closed
-  nowhere-alone e = goOn-alone s T t (asking size) g (onlyCall T t closed) closed (ap (λ (o : Outcome). o .after) (looks-nowhere e)) refl refl
-
   pub looks-at :
       (l : ℕ) → deepest (T .lists) (levelFor s size) ≡ At l → goOn s T t ≡ outcome (Found l) (onlyCall T t (finding size l))
   unfolding lookAt
   looks-at l e = looks ∙ rw e
 
-  pub at-alone : (l : ℕ) → deepest (T .lists) (levelFor s size) ≡ At l → Alone s (onlyCall T t (finding size l)) t (finding size l)
-  at-alone l e =
-      goOn-alone s T t (asking size) g (onlyCall T t (finding size l)) (finding size l) (ap (λ (o : Outcome). o .after) (looks-at l e)) refl refl
+  pub at-runs : (l : ℕ) → deepest (T .lists) (levelFor s size) ≡ At l → Running s (onlyCall T t (finding size l)) t (finding size l)
+  at-runs l e =
+      goOn-runs s T t (asking size) g (onlyCall T t (finding size l)) (finding size l) (ap (λ (o : Outcome). o .after) (looks-at l e)) refl refl
 
 -- found: it takes the first block of the level's list
-module _ (s : Shape) (T : State) (t size l : ℕ) (g : Alone s T t (finding size l)) where
+module _ (s : Shape) (T : State) (t size l : ℕ) (g : Running s T t (finding size l)) where
   pub takes : goOn s T t ≡ takeFrom s T t (finding size l) (freeList s (T .lists) l)
   unfolding goOnStep takeStep
-  takes = goOn-running s T t (finding size l) g (λ e. omega arith)
+  takes = goes g (λ e. omega arith)
 
-  pub take-alone :
+  pub take-runs :
       (b : ℕ) (bs : List ℕ) → freeList s (T .lists) l ≡ b ∷ bs →
-      Alone s (takeFrom s T t (finding size l) (b ∷ bs) .after) t (dividing size l b)
+      Running s (takeFrom s T t (finding size l) (b ∷ bs) .after) t (dividing size l b)
   unfolding takeFrom
-  take-alone b bs e =
-      goOn-alone s T t (finding size l) g _ (dividing size l b) (ap (λ (o : Outcome). o .after) (takes ∙ ap (takeFrom s T t (finding size l)) e)) refl refl
+  take-runs b bs e =
+      goOn-runs s T t (finding size l) g _ (dividing size l b) (ap (λ (o : Outcome). o .after) (takes ∙ ap (takeFrom s T t (finding size l)) e)) refl refl
 
   -- a level that was found has a block
   pub first-listed :
@@ -69,12 +67,12 @@ module _ (s : Shape) (T : State) (t size l : ℕ) (g : Alone s T t (finding size
   first-listed h k = go (freeList s (T .lists) l) refl
     where
       inside : l < s .levels
-      inside = omega (arith, levelFor-inside s size (limits s (g .shape) .levels .0))
+      inside = omega (arith, levelFor-inside s size (limits s (g .sound .shape) .levels .0))
 
       long : length (freeList s (T .lists) l) ≡ getD (T .lists) l 0
       long =
-          length-freeList s (T .lists) l (length-facts s T (g .lengths) .lists) inside
-          (list-short s (T .lists) (valid-facts s T (g .valid) .listEnds) l inside)
+          length-freeList s (T .lists) l (length-facts s T (g .sound .lengths) .lists) inside
+          (list-short s (T .lists) (valid-facts s T (g .sound .valid) .listEnds) l inside)
 
       go : (xs : List ℕ) → freeList s (T .lists) l ≡ xs → (b : ℕ) × (bs : List ℕ) × (freeList s (T .lists) l ≡ b ∷ bs)
       go [] e = absurd (omega (arith, sym (ap length e) ∙ long))

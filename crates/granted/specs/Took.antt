@@ -6,7 +6,6 @@ use mathlib.Core.Bool.{true}
 use mathlib.Core.Logic.{inl, inr, _↔_, Iff·trans}
 use mathlib.Core.List.{List, _∷_}
 use Prim.Native.Nat.{ℕ, _+_, _*_, _/_, _≤_, _<_}
-use native.Mathlib.Nat.{mul-le-mul-right}
 use native.Mathlib.Omega.{arith}
 use lib.ListN.{length}
 use lib.Seq.{getD-set-same}
@@ -14,39 +13,34 @@ use Rattle.shape.specs.declared.Shape.{Shape}
 use Rattle.shape.specs.Limits.{parts, allowed}
 use Rattle.shape.specs.Blocks.{size, count, offset, id, place, bytes, levelFor}
 use Rattle.shape.specs.Laws.{limits, levelFor-inside, place-inside}
-use Rattle.shape.specs.Offsets.{size-some, count-fills}
+use Rattle.shape.specs.Offsets.{size-some}
 use Rattle.rules.specs.declared.Room.{Room}
 use Rattle.rules.specs.declared.Room.the-variants.{At, Nowhere}
 use Rattle.rules.specs.declared.Answer.the-variants.{Granted}
-use Rattle.rules.specs.Numbers.{ALLOCATED, ALLOCATING, DIVIDING}
+use Rattle.rules.specs.Numbers.{ALLOCATED, ALLOCATING}
 use Rattle.rules.specs.Tables.{State, stateAt, freeList}
 use Rattle.rules.specs.Valid.{valid}
 use Rattle.rules.specs.Facts.{valid-facts}
 use Rattle.rules.specs.Room.{length-facts, member-inside, parts-none}
 use Rattle.rules.specs.Steps.{Outcome, deepest, takeFrom, splitStep, grantStep}
-use Rattle.theorems.specs.Given.{listed-free}
-use Rattle.preserve.specs.Lines.{facts}
-use Rattle.preserve.specs.Runs.{Runs, hand-placed, hand-is}
-use Rattle.forest.specs.Bytes.{FreeByte, FreeRun, lies-in}
+use Rattle.history.specs.Given.{listed-free}
+use Rattle.history.specs.Running.{Running, hand-placed, allocating}
+use Rattle.preserve.specs.Splits.{split, split-wide}
+use Rattle.forest.specs.Bytes.{FreeByte, FreeRun, HasByte, lies-in, byte-inside}
 use Rattle.forest.specs.Cover.{cover-one}
 use Rattle.forest.specs.Found.{deepest-some}
-use Rattle.granted.specs.Alone.{Alone}
 use Rattle.granted.specs.Until.{request}
-use Rattle.granted.specs.Divides.{dividing, Grant, grant-alone, grant-answer}
+use Rattle.granted.specs.Divides.{dividing, Grant, grant-runs, grant-answer}
 use Rattle.granted.specs.Takes.{finding}
 use Rattle.granted.specs.Request.{Asks, found, request-nowhere, request-granted}
 use Rattle.granted.specs.Exactly.{IsGranted, no-grant}
-use Rattle.granted.specs.Bytes.{FreeOr, take-bytes, same-bytes, split-bytes, split, split-wide, split-part}
-
--- byte y lies in block b of level l
-abbrev pub Within : Shape → ℕ → ℕ → ℕ → Type 0
-Within s l b y = (offset s l b ≤ y) × (y < offset s l (b + 1))
+use Rattle.granted.specs.Bytes.{FreeOr, take-bytes, same-bytes, split-bytes, split-part}
 
 -- a run of free bytes, block b of level l, stopped being free, and no other byte did
 pub record Took (s : Shape) (before after : List ℕ) (l b : ℕ) : Type 0 where
   pub block : b < count s l
   pub was : FreeRun s before l b
-  pub stops : (y : ℕ) → y < bytes s → FreeByte s after y ↔ (FreeByte s before y × (Within s l b y → ⊥))
+  pub stops : (y : ℕ) → y < bytes s → FreeByte s after y ↔ (FreeByte s before y × (HasByte s l b y → ⊥))
 
 -- over the bytes of an ALLOCATED block no FREE block lies
 not-free :
@@ -58,22 +52,12 @@ not-free s T h v l y q k was (m, i, e) = omega (arith, was, ap (λ (n : ℕ). st
     same = cover-one s T h v y k .once m i (rw e refl) ∙ sym (cover-one s T h v y k .once l q (rw was refl))
 
 -- a thread with a block in hand: it is a block of the shape, and ALLOCATING
-module _ (s : Shape) (T : State) (t wanted l b : ℕ) (g : Alone s T t (dividing wanted l b)) where
-  runs : Runs s T t (dividing wanted l b)
-  runs =
-      record {
-        shape = limits s (g .shape);
-        facts = facts s T (g .lengths, g .valid);
-        thread = g .thread;
-        running = g .running;
-        own = g .own;
-      }
-
+module _ (s : Shape) (T : State) (t wanted l b : ℕ) (g : Running s T t (dividing wanted l b)) where
   placed : (l < s .levels) × (b < count s l)
-  placed = hand-placed runs refl
+  placed = hand-placed g refl
 
   in-hand : stateAt s (T .states) l b ≡ ALLOCATING
-  in-hand = hand-is runs ALLOCATING DIVIDING (valid-facts s T (g .valid) .allocating) refl refl
+  in-hand = allocating g refl
 
   -- where it is split, the bytes of its first part, and those that are free, are the same together
   split-free :
@@ -81,25 +65,25 @@ module _ (s : Shape) (T : State) (t wanted l b : ℕ) (g : Alone s T t (dividing
       FreeOr s (T .states) l b y ↔ FreeOr s (splitStep s T t (dividing wanted l b) .after .states) (l + 1) (parts s * b) y
   unfolding splitStep
   split-free h =
-      split-bytes s (T .states) l b (split s) (limits s (g .shape)) (length-facts s T (g .lengths) .states) level (placed .1)
+      split-bytes s (T .states) l b (split s) (limits s (g .sound .shape)) (length-facts s T (g .sound .lengths) .states) level (placed .1)
       (split-wide s)
       (split-part s)
       (λ e. omega (arith, in-hand))
       (λ j i e.
       omega (
         arith,
-        parts-none s (T .states) (valid-facts s T (g .valid) .partsExist) l b j level (placed .1) i (λ d. omega (arith, in-hand)),
+        parts-none s (T .states) (valid-facts s T (g .sound .valid) .partsExist) l b j level (placed .1) i (λ d. omega (arith, in-hand)),
       ))
     where
       level : l + 1 < s .levels
-      level = omega (arith, levelFor-inside s wanted (limits s (g .shape) .levels .0))
+      level = omega (arith, levelFor-inside s wanted (limits s (g .sound .shape) .levels .0))
 
   -- where it is granted, no byte changes, and its bytes are not free
   grant-free :
       (y : ℕ) → y < bytes s → FreeByte s (T .states) y ↔ FreeByte s (grantStep s T t (dividing wanted l b) .after .states) y
   unfolding grantStep
   grant-free =
-      same-bytes s (T .states) l b ALLOCATED (limits s (g .shape)) (length-facts s T (g .lengths) .states) (placed .0) (placed .1)
+      same-bytes s (T .states) l b ALLOCATED (limits s (g .sound .shape)) (length-facts s T (g .sound .lengths) .states) (placed .0) (placed .1)
       (λ e. omega arith)
       (λ e. omega (arith, in-hand))
 
@@ -108,11 +92,11 @@ module _ (s : Shape) (T : State) (t wanted l b : ℕ) (g : Alone s T t (dividing
       FreeByte s (grantStep s T t (dividing wanted l b) .after .states) y → ⊥
   unfolding grantStep
   grant-stops h y k e =
-      not-free s (grantStep s T t (dividing wanted l b) .after) (g .shape) (grant-alone s T t wanted l b g h .valid) l y (placed .0) k
+      not-free s (grantStep s T t (dividing wanted l b) .after) (g .sound .shape) (grant-runs s T t wanted l b g h .sound .valid) l y (placed .0) k
       (rw e (getD-set-same (T .states) (place s l b) ALLOCATED 0 inside))
     where
       inside : place s l b < length (T .states)
-      inside = rw (length-facts s T (g .lengths) .states) (place-inside s l b (placed .0) (placed .1))
+      inside = rw (length-facts s T (g .sound .lengths) .states) (place-inside s l b (placed .0) (placed .1))
 
 module _ (s : Shape) (T : State) (t wanted : ℕ) (a : Asks s T t wanted) where
   -- what was free when it was asked is free, or lies in block b of level l, in hand
@@ -120,7 +104,7 @@ module _ (s : Shape) (T : State) (t wanted : ℕ) (a : Asks s T t wanted) where
   Held U l b = (y : ℕ) → y < bytes s → FreeByte s (T .states) y ↔ FreeOr s (U .states) l b y
 
   next :
-      (U : State) (l b : ℕ) → Alone s U t (dividing wanted l b) → l < levelFor s wanted → Held U l b →
+      (U : State) (l b : ℕ) → Running s U t (dividing wanted l b) → l < levelFor s wanted → Held U l b →
       Held (splitStep s U t (dividing wanted l b) .after) (l + 1) (parts s * b)
   next U l b g h p y k = Iff·trans (p y k) (split-free s U t wanted l b g h y k)
 
@@ -129,14 +113,14 @@ module _ (s : Shape) (T : State) (t wanted : ℕ) (a : Asks s T t wanted) where
       Held (takeFrom s (found T t wanted l) t (finding wanted l) (b ∷ bs) .after) l b
   unfolding takeFrom
   first l h b bs q =
-      take-bytes s (T .states) l b ALLOCATING (limits s (a .alone .shape)) (length-facts s T (a .alone .lengths) .states) h block
+      take-bytes s (T .states) l b ALLOCATING (limits s (a .runs .sound .shape)) (length-facts s T (a .runs .sound .lengths) .states) h block
       (λ e. omega arith)
-      (listed-free s (T .states) (T .lists) (valid-facts s T (a .alone .valid) .freeListed) l b bs h q)
+      (listed-free s (T .states) (T .lists) (valid-facts s T (a .runs .sound .valid) .freeListed) l b bs h q)
     where
       block : b < count s l
       block =
           rw q at
-          (member-inside s (T .states) (T .lists) (valid-facts s T (a .alone .valid) .freeListed) l 0 h (rw q (omega arith)))
+          (member-inside s (T .states) (T .lists) (valid-facts s T (a .runs .sound .valid) .freeListed) l 0 h (rw q (omega arith)))
 
   -- so once it is granted the bytes of that block have stopped being free, and no others
   took :
@@ -153,30 +137,25 @@ module _ (s : Shape) (T : State) (t wanted : ℕ) (a : Asks s T t wanted) where
       }
     where
       level : levelFor s wanted < s .levels
-      level = levelFor-inside s wanted (limits s (a .alone .shape) .levels .0)
+      level = levelFor-inside s wanted (limits s (a .runs .sound .shape) .levels .0)
 
       block : r .block < count s (levelFor s wanted)
-      block = placed s (r .tables) t wanted (levelFor s wanted) (r .block) (r .alone) .1
+      block = placed s (r .tables) t wanted (levelFor s wanted) (r .block) (r .runs) .1
 
-      lies : {y : ℕ} → (y / size s (levelFor s wanted) ≡ r .block) ↔ Within s (levelFor s wanted) (r .block) y
-      lies {y} = lies-in s (levelFor s wanted) (r .block) y (size-some s (levelFor s wanted) (limits s (a .alone .shape)) level)
+      lies : {y : ℕ} → (y / size s (levelFor s wanted) ≡ r .block) ↔ HasByte s (levelFor s wanted) (r .block) y
+      lies {y} = lies-in s (levelFor s wanted) (r .block) y (size-some s (levelFor s wanted) (limits s (a .runs .sound .shape)) level)
 
       inside : (y : ℕ) → y < offset s (levelFor s wanted) (r .block + 1) → y < bytes s
-      inside y n =
-          omega (
-            arith,
-            count-fills s (levelFor s wanted) (limits s (a .alone .shape)) level,
-            mul-le-mul-right {m = r .block + 1} {n = count s (levelFor s wanted)} (size s (levelFor s wanted)) (omega (arith, block)),
-          )
+      inside y n = byte-inside s (levelFor s wanted) (r .block) y (limits s (a .runs .sound .shape)) level block n
 
       unchanged : (y : ℕ) → y < bytes s → FreeByte s (r .tables .states) y ↔ FreeByte s (o .after .states) y
-      unchanged = rw (r .is) (grant-free s (r .tables) t wanted (levelFor s wanted) (r .block) (r .alone))
+      unchanged = rw (r .is) (grant-free s (r .tables) t wanted (levelFor s wanted) (r .block) (r .runs))
 
       stopped : (y : ℕ) → y < bytes s → y / size s (levelFor s wanted) ≡ r .block → FreeByte s (o .after .states) y → ⊥
-      stopped = rw (r .is) (grant-stops s (r .tables) t wanted (levelFor s wanted) (r .block) (r .alone) (omega arith))
+      stopped = rw (r .is) (grant-stops s (r .tables) t wanted (levelFor s wanted) (r .block) (r .runs) (omega arith))
 
       kept :
-          (y : ℕ) → y < bytes s → (Within s (levelFor s wanted) (r .block) y → ⊥) →
+          (y : ℕ) → y < bytes s → (HasByte s (levelFor s wanted) (r .block) y → ⊥) →
           FreeOr s (r .tables .states) (levelFor s wanted) (r .block) y → FreeByte s (o .after .states) y
       kept y k n (inl f) = unchanged y k .0 f
       kept y k n (inr w) = absurd (n (lies .0 w))
@@ -199,9 +178,9 @@ module _ (s : Shape) (T : State) (t wanted : ℕ) (a : Asks s T t wanted) where
               omega (
                 arith,
                 deepest-some (T .lists) (levelFor s wanted) l e,
-                levelFor-inside s wanted (limits s (a .alone .shape) .levels .0),
+                levelFor-inside s wanted (limits s (a .runs .sound .shape) .levels .0),
               )
 
           grant : Grant s t wanted (λ U b. Held U (levelFor s wanted) b) (request s T t wanted)
           grant = request-granted s T t wanted a l e Held next (first l level)
-      go Nowhere e = absurd (no-grant (request s T t wanted) (ap (λ (o : Outcome). o .answer) (request-nowhere s T t wanted a e .0)) i)
+      go Nowhere e = absurd (no-grant (request s T t wanted) (ap (λ (o : Outcome). o .answer) (request-nowhere s T t wanted a e)) i)

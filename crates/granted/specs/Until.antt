@@ -14,8 +14,8 @@ use Rattle.rules.specs.Numbers.{CLOSED}
 use Rattle.rules.specs.Tables.{State, callOf}
 use Rattle.rules.specs.Steps.{Outcome}
 use Rattle.rules.specs.Calls.{goOn}
-use Rattle.theorems.specs.History.{Ask, GoOn, stepOn, runSteps}
-use Rattle.granted.specs.Alone.{askNow}
+use Rattle.history.specs.History.{Ask, GoOn, stepOn, runSteps}
+use Rattle.granted.specs.Stepped.{askNow}
 
 -- thread t's call as a step leaves it is not open
 abbrev pub Ended : ℕ → Outcome → Type 0

@@ -1,30 +1,30 @@
 -- Ask, switch and tick: the tables stay kept.
 -- Assumes nothing.
-use mathlib.Core.Path.{_≡_, refl, sym, _∙_, ap}
-use mathlib.Core.Bool.{true, false, not, false≢true}
+use mathlib.Core.Path.{_≡_, refl, sym, _∙_}
+use mathlib.Core.Bool.{true, false, false≢true}
 use mathlib.Core.List.{List}
 use Prim.Native.Nat.{ℕ, _+_, _≤_, _<_}
 use native.Mathlib.Omega.{arith}
-use lib.Dec.{leb, ltb, eqb}
-use borrow.Author.Tests.{le-leb, ltb-true, ltb-false, eqb-true, eqb-false, eq-eqb, not-false}
+use lib.Dec.{leb, eqb}
+use borrow.Author.Tests.{le-leb, ltb-true, eq-eqb}
 use Rattle.laws.specs.Tests.{both, both-of}
 use Rattle.shape.specs.declared.Shape.{Shape}
 use Rattle.shape.specs.declared.time.Wait.{Wait}
 use Rattle.shape.specs.declared.time.Wait.the-variants.{Never, Forever, Timed, Outside}
 use Rattle.shape.specs.Time.{ticks, longest, ticksOf}
 use Rattle.rules.specs.declared.Call.{Call}
-use Rattle.rules.specs.declared.Refusal.the-variants.{NoThread, IsBlocked, CallOpen, SizeAboveTop, WaitOutside, ClockAtEnd}
-use Rattle.rules.specs.Numbers.{CLOSED, WAITING, TIMED, CLOCK-END}
+use Rattle.rules.specs.Numbers.{CLOSED, WAITING, TIMED}
 use Rattle.rules.specs.Tables.{State, callOf}
 use Rattle.rules.specs.Valid.{usesDeadline, usesBlock, fieldsUsed, handInside, targetKept, sizeKept, foundKept, deadlineKept, mayWait, callKept}
-use Rattle.rules.specs.Calls.{askedCall, isOutside, askStep, onlyDevice, switchStep, due, tickStep}
+use Rattle.rules.specs.Steps.{onlyCall}
+use Rattle.rules.specs.Calls.{askedCall, onlyDevice, due}
 use Rattle.rules.specs.Room.{call-facts}
-use Rattle.theorems.specs.Refusals.{past}
+use Rattle.history.specs.Running.{Running, uses-block}
+use Rattle.history.specs.Walk.{ticked}
 use Rattle.preserve.specs.Lines.{Facts}
-use Rattle.preserve.specs.CallLines.{uses-block}
 use Rattle.laws.specs.Changes.{implied}
 use Rattle.preserve.specs.OneCall.{running-of}
-use Rattle.preserve.specs.Runs.{Runs, only-call}
+use Rattle.preserve.specs.Runs.{only-call}
 use Rattle.preserve.specs.Wakes.{wakes-kept}
 
 -- the call that an ask opens
@@ -52,43 +52,32 @@ new-ready clock size (Timed n) e = omega arith
 new-ready clock size Outside e = omega arith
 
 pub ask-kept :
-    {s : Shape} {T : State} {t : ℕ} {c : Call} → Runs s T t c → (size : ℕ) (w : Wait) → ticksOf w ≤ ticks longest →
-    Facts s (askStep s T t size w .after)
-unfolding askStep
-ask-kept {s} {T} {t} {c} g size w k =
-    past (Facts s) (not (eqb (callOf (T .calls) t .stage) CLOSED)) CallOpen T _ (g .facts) (λ o.
-    past (Facts s) (ltb (s .«top_size») size) SizeAboveTop T _ (g .facts) (λ b.
-    past (Facts s) (isOutside w) WaitOutside T _ (g .facts) (λ p.
-    only-call g (askedCall (T .device .clock) size w)
-    (uses-block c CLOSED (ap (λ (d : Call). d .stage) (sym (g .own)) ∙ eqb-true _ _ (not-false _ o)))
-    (new-idle (T .device .clock) size w)
+    {s : Shape} {T : State} {t : ℕ} {c : Call} → Running s T t c → c .stage ≡ CLOSED → (size : ℕ) (w : Wait) →
+    size ≤ s .«top_size» → ticksOf w ≤ ticks longest → Facts s (onlyCall T t (askedCall (T .device .clock) size w))
+ask-kept {s} {T} {t} {c} g o size w h k =
+    only-call g (askedCall (T .device .clock) size w) (uses-block c CLOSED o) (new-idle (T .device .clock) size w)
     (new-ready (T .device .clock) size w)
-    (new-kept s (T .device .clock) size w (ltb-false _ _ b) k))))
+    (new-kept s (T .device .clock) size w h k)
 
 -- another thread runs, one that isn't blocked
-pub switch-kept : (s : Shape) (T : State) (t : ℕ) → Facts s T → Facts s (switchStep s T t .after)
-unfolding switchStep
-switch-kept s T t f =
-    past (Facts s) (not (ltb t (s .threads))) NoThread T _ f (λ h.
-    past (Facts s) (eqb (callOf (T .calls) t .stage) WAITING) IsBlocked T _ f (λ w.
-    switched (ltb-true _ _ (not-false _ h)) (eqb-false _ _ w)))
-  where
-    switched : t < s .threads → (callOf (T .calls) t .stage ≡ WAITING → ⊥) → Facts s (onlyDevice T (T .device .clock) (t + 1))
-    switched h w =
-        record {
-          pool = f .pool;
-          threads =
-              record {
-                long = f .threads .long;
-                queueLong = f .threads .queueLong;
-                kept = f .threads .kept;
-                allocating = f .threads .allocating;
-                freeing = f .threads .freeing;
-                ends = f .threads .ends;
-                waiters = f .threads .waiters;
-                running = running-of s (T .calls) (record { clock = T .device .clock; running = t + 1 }) t refl h w;
-              };
-        }
+pub switch-kept :
+    (s : Shape) (T : State) (t : ℕ) → Facts s T → t < s .threads → (callOf (T .calls) t .stage ≡ WAITING → ⊥) →
+    Facts s (onlyDevice T (T .device .clock) (t + 1))
+switch-kept s T t f h w =
+    record {
+      pool = f .pool;
+      threads =
+          record {
+            long = f .threads .long;
+            queueLong = f .threads .queueLong;
+            kept = f .threads .kept;
+            allocating = f .threads .allocating;
+            freeing = f .threads .freeing;
+            ends = f .threads .ends;
+            waiters = f .threads .waiters;
+            running = running-of s (T .calls) (record { clock = T .device .clock; running = t + 1 }) t refl h w;
+          };
+    }
 
 -- while a thread waits for a time, that lies above the clock
 deadline-above :
@@ -110,11 +99,8 @@ unfolding due
 not-due calls clock t d n q = false≢true (sym n ∙ both-of _ _ (eq-eqb _ _ d) (eq-eqb _ _ q))
 
 -- a thread whose deadline comes wakes; the deadlines of the others lie above the new clock
-pub tick-kept : (s : Shape) (T : State) → Facts s T → Facts s (tickStep s T .after)
-unfolding tickStep
-tick-kept s T f =
-    past (Facts s) (eqb (T .device .clock) CLOCK-END) ClockAtEnd T _ f (λ e.
-    wakes-kept f (due (T .calls) (T .device .clock + 1)) (T .device .clock + 1) (omega arith) above)
+pub tick-kept : (s : Shape) (T : State) → Facts s T → Facts s (ticked s T)
+tick-kept s T f = wakes-kept f (due (T .calls) (T .device .clock + 1)) (T .device .clock + 1) (omega arith) above
   where
     soonest :
         (t : ℕ) → t < s .threads → callOf (T .calls) t .stage ≡ WAITING → callOf (T .calls) t .wait ≡ TIMED →

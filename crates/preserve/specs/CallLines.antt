@@ -11,7 +11,7 @@ use Rattle.shape.specs.declared.Shape.{Shape}
 use Rattle.shape.specs.Blocks.{count, levelFor}
 use Rattle.shape.specs.Time.{ticks, longest}
 use Rattle.rules.specs.declared.Call.{Call}
-use Rattle.rules.specs.Numbers.{ASKED, FOUND, DIVIDING, RELEASING, WAITING, NEVER, TIMED}
+use Rattle.rules.specs.Numbers.{CLOSED, ASKED, FOUND, DIVIDING, RELEASING, WAITING, NEVER, TIMED}
 use Rattle.rules.specs.Valid.{usesWait, usesSize, usesDeadline, usesLevel, usesBlock, fieldsUsed, handInside, targetKept, sizeKept, foundKept, deadlineKept, mayWait, callKept}
 use Rattle.rules.specs.Steps.{closed, holding, moved}
 use Rattle.rules.specs.Room.{CallFacts}
@@ -25,10 +25,7 @@ call-kept-of s clock c f =
     (f .deadline))
     (f .waits)
 
--- a stage tells whether it uses a block, and whether the wait
-pub uses-block : (c : Call) (n : ℕ) → c .stage ≡ n → usesBlock c ≡ (eqb n DIVIDING || eqb n RELEASING)
-uses-block c n e = ap (λ (k : ℕ). eqb k DIVIDING || eqb k RELEASING) e
-
+-- a stage tells whether it uses the wait
 pub uses-wait : (c : Call) (n : ℕ) → c .stage ≡ n → usesWait c ≡ (eqb n ASKED || eqb n WAITING || eqb n FOUND)
 uses-wait c n e = ap (λ (k : ℕ). eqb k ASKED || eqb k WAITING || eqb k FOUND) e
 
@@ -56,6 +53,8 @@ in-time false t z m e f g = absurd (false≢true f)
 -- which fields hold zero, line by line
 pub record Fields (c : Call) : Type 0 where
   pub kind : leb (c .wait) TIMED ≡ true
+  pub size : (usesSize c || eqb (c .size) 0) ≡ true
+  pub wait : (usesWait c || eqb (c .wait) 0) ≡ true
   pub deadline : (usesDeadline c || eqb (c .deadline) 0) ≡ true
   pub level : (usesLevel c || eqb (c .level) 0) ≡ true
   pub block : (usesBlock c || eqb (c .block) 0) ≡ true
@@ -70,10 +69,36 @@ fields c e =
     let f5 = both _ (usesSize c || eqb (c .size) 0) (f4 .0) in
     record {
       kind = both (leb (c .stage) WAITING) (leb (c .wait) TIMED) (f5 .0) .1;
+      size = f5 .1;
+      wait = f4 .1;
       deadline = f3 .1;
       level = f2 .1;
       block = f1 .1;
     }
+
+-- so a call that is not open has no other contents than these
+pub closed-is : (c : Call) → fieldsUsed c ≡ true → c .stage ≡ CLOSED → c ≡ closed
+closed-is c f e =
+    zeros e (eqb-true _ _ (rw e at (k .size))) (eqb-true _ _ (rw e at (k .wait))) (eqb-true _ _ (rw e at (k .deadline)))
+    (eqb-true _ _ (rw e at (k .level)))
+    (eqb-true _ _ (rw e at (k .block)))
+  where
+    k : Fields c
+    k = fields c f
+
+    zeros :
+        c .stage ≡ CLOSED → c .size ≡ 0 → c .wait ≡ 0 → c .deadline ≡ 0 → c .level ≡ 0 → c .block ≡ 0 →
+        _≡_ {A = Call}
+        (record {
+          stage = c .stage;
+          size = c .size;
+          wait = c .wait;
+          deadline = c .deadline;
+          level = c .level;
+          block = c .block;
+        })
+        closed
+    zeros p q r u v w = rw (p, q, r, u, v, w)
 
 -- what is kept of a call whose stage uses the wait
 pub asks : (s : Shape) (clock : ℕ) (c : Call) → CallFacts s clock c → usesWait c ≡ true → usesBlock c ≡ false → Asks s clock c

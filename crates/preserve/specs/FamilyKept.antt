@@ -14,10 +14,11 @@ use Rattle.rules.specs.declared.Call.{Call}
 use Rattle.rules.specs.Numbers.{ALLOCATED, FREE, DIVIDED, NOEXIST, FREEING, ALLOCATING, DIVIDING, RELEASING, WAITING}
 use Rattle.rules.specs.Tables.{State, state, stateAt, putCall}
 use Rattle.rules.specs.Valid.{inHand, oneToOne, callKept}
-use Rattle.preserve.specs.Lines.{Facts}
+use Rattle.history.specs.Running.{Running}
+use Rattle.preserve.specs.Lines.{Facts, facts}
 use Rattle.preserve.specs.States.{Alike, known-alike, owners-alike}
 use Rattle.preserve.specs.FreeLists.{Listing}
-use Rattle.preserve.specs.Runs.{Runs, hands-after, threads-after}
+use Rattle.preserve.specs.Runs.{hands-after, threads-after}
 use Rattle.preserve.specs.Family.{Family, Elsewhere, by-family, family, family-long, family-own, family-part, family-rest}
 use Rattle.preserve.specs.FamilyLines.{tops-family, parts-family, deepest-family, merged-family}
 
@@ -47,7 +48,7 @@ pub record Change (s : Shape) (T : State) (t : ℕ) (d : Call) (l b own : ℕ) (
   pub ready : d .stage ≡ WAITING → ⊥
   pub kept : callKept s (T .device .clock) d ≡ true
 
-module _ {s : Shape} {T : State} {t : ℕ} {c : Call} (g : Runs s T t c) where
+module _ {s : Shape} {T : State} {t : ℕ} {c : Call} (g : Running s T t c) where
   pub hands-family :
       {d : Call} {l b own : ℕ} {vs : List ℕ} {st stage : ℕ} → Family s (T .states) l b vs →
       HandsPassed s (T .states) l b own vs c d st stage → oneToOne st stage s (T .states) (T .calls) ≡ true →
@@ -72,14 +73,14 @@ module _ {s : Shape} {T : State} {t : ℕ} {c : Call} (g : Runs s T t c) where
         pool =
             record {
               long = family-long (m .parted) own;
-              ownersLong = g .facts .pool .ownersLong;
+              ownersLong = facts (g .sound) .pool .ownersLong;
               listsLong = m .listing .long;
-              known = known-alike s (T .states) _ (m .known) (g .facts .pool .known);
-              owned = owners-alike s (T .states) _ (T .owners) (m .owned) (g .facts .pool .owned);
-              tops = tops-family (m .parted) own (m .exists) (g .facts .pool .tops);
-              parts = parts-family (m .parted) own (m .exists) (m .undivided) (m .made) (g .facts .pool .parts);
-              deepest = deepest-family (m .parted) own (m .undivided) (g .facts .pool .deepest);
-              merged = merged-family (m .parted) own (m .free) (m .unmerged) (g .facts .pool .merged);
+              known = known-alike s (T .states) _ (m .known) (facts (g .sound) .pool .known);
+              owned = owners-alike s (T .states) _ (T .owners) (m .owned) (facts (g .sound) .pool .owned);
+              tops = tops-family (m .parted) own (m .exists) (facts (g .sound) .pool .tops);
+              parts = parts-family (m .parted) own (m .exists) (m .undivided) (m .made) (facts (g .sound) .pool .parts);
+              deepest = deepest-family (m .parted) own (m .undivided) (facts (g .sound) .pool .deepest);
+              merged = merged-family (m .parted) own (m .free) (m .unmerged) (facts (g .sound) .pool .merged);
               ends = m .listing .ends;
               listed = m .listing .listed;
             };

@@ -17,7 +17,7 @@ use Rattle.shape.specs.Sections.{part-inside}
 use Rattle.rules.specs.Numbers.{FREE, DIVIDED, NOEXIST}
 use Rattle.rules.specs.Tables.{stateAt}
 use Rattle.rules.specs.Valid.{topsExist, partsExist, deepestWhole, buddiesMerged}
-use Rattle.theorems.specs.Table.{alike}
+use Rattle.history.specs.Given.{alike}
 use Rattle.laws.specs.Changes.{beq-of, part-of}
 use Rattle.preserve.specs.Family.{Family, by-family, family, family-own, family-part, family-rest}
 

@@ -8,6 +8,7 @@ use lib.ListN.{length}
 use borrow.Author.Tests.{eq-eqb}
 use Rattle.laws.specs.Tests.{both-of}
 use Rattle.shape.specs.declared.Shape.{Shape}
+use Rattle.shape.specs.Limits.{allowed}
 use Rattle.shape.specs.Blocks.{blocks}
 use Rattle.rules.specs.declared.Device.{Device}
 use Rattle.rules.specs.Numbers.{FREEING, ALLOCATING, DIVIDING, RELEASING, CELLS}
@@ -15,10 +16,7 @@ use Rattle.rules.specs.Tables.{State, lengths}
 use Rattle.rules.specs.Valid.{statesKnown, ownersKnown, topsExist, partsExist, deepestWhole, buddiesMerged, listEnds, freeListed, callsKept, oneToOne, queueEnds, waitersQueued, runningReady, valid}
 use Rattle.rules.specs.Facts.{ValidFacts, valid-facts}
 use Rattle.rules.specs.Room.{LengthFacts, length-facts}
-
--- the tables have the shape's lengths and are a valid state
-abbrev pub Kept : Shape → State → Type 0
-Kept s T = (lengths s T ≡ true) × (valid s T ≡ true)
+use Rattle.history.specs.Running.{Sound}
 
 pub record Pool (s : Shape) (states owners lists : List ℕ) : Type 0 where
   pub long : length states ≡ blocks s
@@ -47,8 +45,8 @@ pub record Facts (s : Shape) (T : State) : Type 0 where
   pub pool : Pool s (T .states) (T .owners) (T .lists)
   pub threads : Threads s (T .states) (T .calls) (T .queue) (T .device)
 
-pub facts : (s : Shape) (T : State) → Kept s T → Facts s T
-facts s T k = of (length-facts s T (k .0)) (valid-facts s T (k .1))
+pub facts : {s : Shape} {T : State} → Sound s T → Facts s T
+facts {s} {T} k = of (length-facts s T (k .lengths)) (valid-facts s T (k .valid))
   where
     of : LengthFacts s T → ValidFacts s T → Facts s T
     of n v =
@@ -105,5 +103,5 @@ valid-of s T f =
     (both-of _ _ (f .threads .allocating) (f .threads .freeing)))
     (both-of _ _ (both-of _ _ (f .threads .ends) (f .threads .waiters)) (f .threads .running))
 
-pub kept-of : (s : Shape) (T : State) → Facts s T → Kept s T
-kept-of s T f = (lengths-of s T f, valid-of s T f)
+pub sound-of : {s : Shape} {T : State} → allowed s ≡ true → Facts s T → Sound s T
+sound-of {s} {T} a f = record { shape = a; lengths = lengths-of s T f; valid = valid-of s T f }

@@ -25,12 +25,13 @@ use Rattle.rules.specs.Numbers.{ALLOCATED, FREE, DIVIDED, NOEXIST, FREEING, ALL
 use Rattle.rules.specs.Tables.{State, state, stateAt, freeList, putList, putCall}
 use Rattle.rules.specs.Valid.{usesBlock, inHand}
 use Rattle.rules.specs.Steps.{holding, firstBuddy, merges, mergeStep}
-use Rattle.theorems.specs.Given.{merging}
-use Rattle.preserve.specs.Lines.{Facts}
-use Rattle.preserve.specs.CallLines.{uses-block, releasing-kept}
+use Rattle.history.specs.Given.{merging}
+use Rattle.history.specs.Running.{Running, uses-block, hand-placed, freeing}
+use Rattle.preserve.specs.Lines.{Facts, facts}
+use Rattle.preserve.specs.CallLines.{releasing-kept}
 use Rattle.preserve.specs.OneCall.{not-in-hand, hand-there, hand-elsewhere}
 use Rattle.preserve.specs.FreeLists.{listing, listed-at}
-use Rattle.preserve.specs.Runs.{Runs, hand-placed, hand-is, hands-after}
+use Rattle.preserve.specs.Runs.{hands-after}
 use Rattle.preserve.specs.Family.{Family, family, family-alike}
 use Rattle.preserve.specs.FamilyLists.{Relists, listing-family}
 use Rattle.preserve.specs.FamilyKept.{HandsPassed, hands-family, family-kept}
@@ -65,7 +66,7 @@ Buddy s T c l j =
     ((parts s * parent s c + j ≡ c .block) × (stateAt s (T .states) (l + 1) (parts s * parent s c + j) ≡ FREEING))
     ⊎ ((parts s * parent s c + j ≡ c .block → ⊥) × (stateAt s (T .states) (l + 1) (parts s * parent s c + j) ≡ FREE))
 
-module _ {s : Shape} {T : State} {t : ℕ} {c : Call} (g : Runs s T t c) (e : c .stage ≡ RELEASING) (l : ℕ) (q : c .level ≡ l + 1)
+module _ {s : Shape} {T : State} {t : ℕ} {c : Call} (g : Running s T t c) (e : c .stage ≡ RELEASING) (l : ℕ) (q : c .level ≡ l + 1)
     (free :
     every (parts s) (λ j.
     eqb (firstBuddy s (c .block) + j) (c .block) || eqb (stateAt s (T .states) (c .level) (firstBuddy s (c .block) + j)) FREE)
@@ -77,20 +78,20 @@ module _ {s : Shape} {T : State} {t : ℕ} {c : Call} (g : Runs s T t c) (e : c 
   mine = rw q at (hand-placed g used .1)
 
   own : stateAt s (T .states) (l + 1) (c .block) ≡ FREEING
-  own = rw q at (hand-is g FREEING RELEASING (g .facts .threads .freeing) used e)
+  own = rw q at (freeing g e)
 
   parted : Family s (T .states) l (parent s c) (gone s)
   parted =
       let n : l + 1 - 1 ≡ l = omega arith in
       record {
-        long = g .facts .pool .long;
+        long = facts (g .sound) .pool .long;
         level = rw q at (hand-placed g used .0);
         block = rw n at (parent-inside s (l + 1) (c .block) (omega arith) mine);
         wide = length-replicate (parts s) NOEXIST;
       }
 
   was : stateAt s (T .states) l (parent s c) ≡ DIVIDED
-  was = merging s (T .states) (g .facts .pool .parts) l (l + 1) (c .block) refl (parted .level) mine own (rw q at free) .0
+  was = merging s (T .states) (facts (g .sound) .pool .parts) l (l + 1) (c .block) refl (parted .level) mine own (rw q at free) .0
 
   buddy : (j : ℕ) → j < parts s → Buddy s T c l j
   buddy j h = go (ℕ-discrete (firstBuddy s (c .block) + j) (c .block)) (either _ _ (every-at (parts s) _ (rw q at free) j h))
@@ -130,7 +131,7 @@ module _ {s : Shape} {T : State} {t : ℕ} {c : Call} (g : Runs s T t c) (e : c 
         others = λ a h.
             times-keep _ a (freeList s (T .lists) (l + 1))
             ∙ ap (λ (n : ℕ). cond (not (eqb (a / parts s) (parent s c))) n 0)
-            (listed-at (listing (g .facts .pool)) (l + 1) (parted .level) .others a h)
+            (listed-at (listing (facts (g .sound) .pool)) (l + 1) (parted .level) .others a h)
             ∙ cond-zero (not (eqb (a / parts s) (parent s c)));
       }
 
@@ -178,21 +179,21 @@ module _ {s : Shape} {T : State} {t : ℕ} {c : Call} (g : Runs s T t c) (e : c 
         made = λ j h. ap (λ (x : ℕ). not (eqb x NOEXIST)) (gone-at s j h);
         free = ap (λ (x : ℕ). eqb x FREE) (sym was);
         unmerged = every-not (parts s) _ 0 (parts-pos s) (ap (λ (x : ℕ). eqb x FREE) (gone-at s 0 (parts-pos s)));
-        listing = listing-family parted FREEING (listing (g .facts .pool)) relists (ap (λ (x : ℕ). eqb x FREE) (sym was));
+        listing = listing-family parted FREEING (listing (facts (g .sound) .pool)) relists (ap (λ (x : ℕ). eqb x FREE) (sym was));
         allocating =
-            hands-after g ALLOCATING DIVIDING (holding RELEASING 0 l (parent s c)) _ (g .facts .threads .allocating)
+            hands-after g ALLOCATING DIVIDING (holding RELEASING 0 l (parent s c)) _ (facts (g .sound) .threads .allocating)
             (λ m a i h.
             rw (
               alike-merge (λ x. eqb x ALLOCATING) refl refl refl (place s m a),
               not-in-hand DIVIDING m a c (λ x. omega arith),
             ));
-        freeing = hands-family g parted passed (g .facts .threads .freeing);
+        freeing = hands-family g parted passed (facts (g .sound) .threads .freeing);
         ready = λ n. omega arith;
         kept = releasing-kept s (T .device .clock) l (parent s c) (omega (arith, parted .level)) (parted .block);
       }))
 
 pub merge-kept :
-    {s : Shape} {T : State} {t : ℕ} {c : Call} → Runs s T t c → c .stage ≡ RELEASING →
+    {s : Shape} {T : State} {t : ℕ} {c : Call} → Running s T t c → c .stage ≡ RELEASING →
     merges s (T .states) (c .level) (c .block) ≡ true → Facts s (mergeStep s T t c .after)
 unfolding mergeStep merges
 merge-kept {s} {T} {t} {c} g e k =

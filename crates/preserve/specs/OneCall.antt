@@ -1,24 +1,27 @@
 -- One thread's call is put: what the lines on calls say of the others stays, and a count over all threads changes by that one.
 -- Assumes nothing.
-use mathlib.Core.Path.{_≡_, refl, sym, ap}
+use mathlib.Core.Path.{_≡_, refl, sym, _∙_, ap}
 use mathlib.Core.Bool.{Bool, true, false, _&&_}
 use mathlib.Core.List.{List}
-use Prim.Native.Nat.{ℕ, _+_, _*_, _-_, _<_}
-use native.Mathlib.Decide.{ℕ-discrete}
+use Prim.Native.Nat.{ℕ, zero, suc, _+_, _*_, _-_, _<_}
+use native.Mathlib.Nat.{add-zero}
+use native.Mathlib.Decide.{decLt, ℕ-discrete}
 use native.Mathlib.Omega.{arith}
-use lib.ListN.{length}
+use lib.ListN.{length, getD}
+use lib.Seq.{length-sets, ext-getD}
 use lib.Dec.{eqb}
 use borrow.Author.Tests.{le-leb, eqb-true, eq-eqb, ne-eqb}
 use Rattle.laws.specs.Tests.{bit, every-at, every-of, tally}
+use Rattle.laws.specs.Keep.{getD-sets, getD-sets-other}
+use Rattle.laws.specs.Changes.{tally-one}
 use Rattle.shape.specs.declared.Shape.{Shape}
 use Rattle.shape.specs.Blocks.{count}
 use Rattle.rules.specs.declared.Call.{Call}
 use Rattle.rules.specs.declared.Device.{Device}
 use Rattle.rules.specs.Numbers.{WAITING, CELLS}
-use Rattle.rules.specs.Tables.{stateAt, callOf, putCall}
+use Rattle.rules.specs.Tables.{stateAt, callOf, cells, putCall}
 use Rattle.rules.specs.Valid.{inHand, oneToOne, callKept, callsKept, runningReady}
 use Rattle.calls.specs.Call.{callOf-putCall, callOf-putCall-other}
-use Rattle.laws.specs.Changes.{tally-one}
 
 -- a call at another stage has no block in hand for this one
 pub not-in-hand : (stage l b : ℕ) (c : Call) → (c .stage ≡ stage → ⊥) → inHand stage l b c ≡ false
@@ -47,9 +50,42 @@ running-of s calls device t e h n =
     let q : device .running - 1 ≡ t = omega arith in
     rw (ne-eqb (device .running) 0 (omega arith), le-leb (device .running) (s .threads) (omega arith), q, ne-eqb _ _ n)
 
+-- the cells of a call as they stand in the table
+cell : (calls : List ℕ) (t k : ℕ) → k < CELLS → getD (cells (callOf calls t)) k 0 ≡ getD calls (CELLS * t + k) 0
+unfolding callOf
+cell calls t zero h = rw add-zero
+cell calls t (suc zero) h = refl
+cell calls t (suc (suc zero)) h = refl
+cell calls t (suc (suc (suc zero))) h = refl
+cell calls t (suc (suc (suc (suc zero)))) h = refl
+cell calls t (suc (suc (suc (suc (suc zero))))) h = refl
+cell calls t (suc (suc (suc (suc (suc (suc k)))))) h = absurd (omega arith)
+
 module _ (s : Shape) (calls : List ℕ) (t : ℕ) (c : Call) (long : length calls ≡ CELLS * s .threads) (h : t < s .threads) where
   pub put-mine : callOf (putCall calls t c) t ≡ c
   put-mine = callOf-putCall calls t c (omega arith)
+
+  -- a call that is put back where it stood leaves the table as it was
+  pub put-back : putCall (putCall calls t c) t (callOf calls t) ≡ calls
+  unfolding putCall callOf
+  put-back = ext-getD 0 _ calls (simp length-sets) (λ i l. at i (decLt i (CELLS * t)) (decLt i (CELLS * t + CELLS)))
+    where
+      other :
+          (i : ℕ) → ((k : ℕ) → k < CELLS → i ≡ CELLS * t + k → ⊥) →
+          getD (putCall (putCall calls t c) t (callOf calls t)) i 0 ≡ getD calls i 0
+      other i n = getD-sets-other (putCall calls t c) (cells (callOf calls t)) (CELLS * t) i 0 n ∙ getD-sets-other calls (cells c) (CELLS * t) i 0 n
+
+      at :
+          (i : ℕ) → Dec (i < CELLS * t) → Dec (i < CELLS * t + CELLS) →
+          getD (putCall (putCall calls t c) t (callOf calls t)) i 0 ≡ getD calls i 0
+      at i (no p) (yes q) =
+          let e : i ≡ CELLS * t + (i - CELLS * t) = omega arith in
+          ap (λ (k : ℕ). getD (putCall (putCall calls t c) t (callOf calls t)) k 0) e
+          ∙ getD-sets (putCall calls t c) (cells (callOf calls t)) (CELLS * t) (i - CELLS * t) 0 (omega arith) (simp length-sets (omega arith))
+          ∙ cell calls t (i - CELLS * t) (omega arith)
+          ∙ ap (λ (k : ℕ). getD calls k 0) (sym e)
+      at i (yes p) q = other i (λ k l. omega arith)
+      at i (no p) (no q) = other i (λ k l. omega arith)
 
   pub calls-put :
       (clock : ℕ) → callsKept s clock calls ≡ true → callKept s clock c ≡ true → callsKept s clock (putCall calls t c) ≡ true

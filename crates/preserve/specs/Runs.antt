@@ -12,27 +12,17 @@ use Rattle.laws.specs.Tests.{bit}
 use Rattle.laws.specs.Lists.{times}
 use Rattle.shape.specs.declared.Shape.{Shape}
 use Rattle.shape.specs.Blocks.{count}
-use Rattle.shape.specs.Laws.{Limits}
 use Rattle.rules.specs.declared.Call.{Call}
 use Rattle.rules.specs.Numbers.{FREEING, ALLOCATING, ASKED, FOUND, DIVIDING, RELEASING, WAITING}
 use Rattle.rules.specs.Tables.{State, stateAt, queueOf, callOf, putCall}
 use Rattle.rules.specs.Valid.{usesBlock, inHand, oneToOne, callKept, callsKept}
 use Rattle.rules.specs.Steps.{onlyCall}
-use Rattle.rules.specs.Room.{CallFacts, call-facts, hand-inside, hand-state}
 use Rattle.calls.specs.Call.{length-putCall, callOf-putCall-other}
-use Rattle.theorems.specs.Given.{running-ready}
-use Rattle.preserve.specs.Lines.{Threads, Facts}
-use Rattle.preserve.specs.CallLines.{Asks, asks, uses-block, uses-wait}
+use Rattle.history.specs.Running.{Running, own-facts, uses-block, ready}
+use Rattle.preserve.specs.Lines.{Threads, Facts, facts}
+use Rattle.preserve.specs.CallLines.{Asks, asks, uses-wait}
 use Rattle.preserve.specs.OneCall.{not-in-hand, running-of, put-mine, calls-put, hands-put}
 use Rattle.preserve.specs.Queue.{Named, named, waiters-of}
-
--- the tables are kept, thread t runs, and c is its call
-pub record Runs (s : Shape) (T : State) (t : ℕ) (c : Call) : Type 0 where
-  pub shape : Limits s
-  pub facts : Facts s T
-  pub thread : t < s .threads
-  pub running : T .device .running ≡ t + 1
-  pub own : callOf (T .calls) t ≡ c
 
 -- a call that uses no block has none in hand at either stage
 empty-hand :
@@ -41,37 +31,16 @@ empty-hand :
 empty-hand stage l b c e n =
     not-in-hand stage l b c (λ q. true≢false (sym e ∙ sym (uses-block c stage q) ∙ n))
 
-module _ {s : Shape} {T : State} {t : ℕ} {c : Call} (g : Runs s T t c) where
-  -- it isn't blocked
-  pub ready : c .stage ≡ WAITING → ⊥
-  ready q =
-      running-ready s (T .calls) (T .device) (g .facts .threads .running) t (g .running)
-      (ap (λ (d : Call). d .stage) (g .own) ∙ q)
-
-  pub own-facts : CallFacts s (T .device .clock) c
-  own-facts = rw (g .own) at (call-facts s (T .device .clock) (T .calls) (g .facts .threads .kept) t (g .thread))
-
+module _ {s : Shape} {T : State} {t : ℕ} {c : Call} (g : Running s T t c) where
   -- what it asks for, where its stage uses the wait
   pub asking : (n : ℕ) → c .stage ≡ n → (eqb n ASKED || eqb n WAITING || eqb n FOUND) ≡ true →
       (eqb n DIVIDING || eqb n RELEASING) ≡ false → Asks s (T .device .clock) c
-  asking n e w b = asks s (T .device .clock) c own-facts (uses-wait c n e ∙ w) (uses-block c n e ∙ b)
-
-  -- its block in hand, where it has one, and the state of that
-  pub hand-placed : usesBlock c ≡ true → (c .level < s .levels) × (c .block < count s (c .level))
-  hand-placed u = hand-inside s c (own-facts .hand) u
-
-  pub hand-is :
-      (st stage : ℕ) → oneToOne st stage s (T .states) (T .calls) ≡ true → usesBlock c ≡ true → c .stage ≡ stage →
-      stateAt s (T .states) (c .level) (c .block) ≡ st
-  hand-is st stage k u e =
-      rw (g .own) at
-      (hand-state st stage s (T .states) (T .calls) k t (g .thread) (rw (g .own) e) (rw (g .own) (hand-placed u .0))
-      (rw (g .own) (hand-placed u .1)))
+  asking n e w b = asks s (T .device .clock) c (own-facts g) (uses-wait c n e ∙ w) (uses-block c n e ∙ b)
 
   pub calls-after :
       (d : Call) → callKept s (T .device .clock) d ≡ true → callsKept s (T .device .clock) (putCall (T .calls) t d) ≡ true
   calls-after d k =
-      calls-put s (T .calls) t d (g .facts .threads .long) (g .thread) (T .device .clock) (g .facts .threads .kept) k
+      calls-put s (T .calls) t d (facts (g .sound) .threads .long) (g .thread) (T .device .clock) (facts (g .sound) .threads .kept) k
 
   -- blocks stay one to one to calls where the state and the call change together
   pub hands-after :
@@ -81,7 +50,7 @@ module _ {s : Shape} {T : State} {t : ℕ} {c : Call} (g : Runs s T t c) where
       ≡ bit (eqb (stateAt s (T .states) l b) st) + bit (inHand stage l b d)) →
       oneToOne st stage s after (putCall (T .calls) t d) ≡ true
   hands-after st stage d after e k =
-      hands-put s (T .calls) t d (g .facts .threads .long) (g .thread) st stage (T .states) after e (rw (g .own) k)
+      hands-put s (T .calls) t d (facts (g .sound) .threads .long) (g .thread) st stage (T .states) after e (rw (g .own) k)
 
   -- and stay so where neither call has one in hand and no state changes
   pub idle-after :
@@ -102,16 +71,16 @@ module _ {s : Shape} {T : State} {t : ℕ} {c : Call} (g : Runs s T t c) where
       }
     where
       was : Named s (T .calls) (queueOf (T .queue))
-      was = named s (T .calls) (T .queue) (g .facts .threads .waiters)
+      was = named s (T .calls) (T .queue) (facts (g .sound) .threads .waiters)
 
       at : (u : ℕ) → u < s .threads → Dec (u ≡ t) → times u xs ≡ bit (eqb (callOf (putCall (T .calls) t d) u .stage) WAITING)
-      at u l (yes q) = rw (q, put-mine s (T .calls) t d (g .facts .threads .long) (g .thread)) e
+      at u l (yes q) = rw (q, put-mine s (T .calls) t d (facts (g .sound) .threads .long) (g .thread)) e
       at u l (no q) = k u q ∙ was .each u l ∙ rw (callOf-putCall-other (T .calls) t u d q)
 
   -- it isn't queued
   pub not-queued : times t (queueOf (T .queue)) ≡ 0
   not-queued =
-      named s (T .calls) (T .queue) (g .facts .threads .waiters) .each t (g .thread) ∙ rw (g .own, ne-eqb _ _ ready)
+      named s (T .calls) (T .queue) (facts (g .sound) .threads .waiters) .each t (g .thread) ∙ rw (g .own, ne-eqb _ _ (ready g))
 
   -- it goes on running with another call; the states may change with the call
   pub threads-after :
@@ -121,19 +90,19 @@ module _ {s : Shape} {T : State} {t : ℕ} {c : Call} (g : Runs s T t c) where
       Threads s after (putCall (T .calls) t d) (T .queue) (T .device)
   threads-after d after n k x y =
       record {
-        long = length-putCall (T .calls) t d ∙ g .facts .threads .long;
-        queueLong = g .facts .threads .queueLong;
+        long = length-putCall (T .calls) t d ∙ facts (g .sound) .threads .long;
+        queueLong = facts (g .sound) .threads .queueLong;
         kept = calls-after d k;
         allocating = x;
         freeing = y;
-        ends = g .facts .threads .ends;
+        ends = facts (g .sound) .threads .ends;
         waiters =
             waiters-of s (putCall (T .calls) t d) (T .queue)
             (named-after d (queueOf (T .queue)) (not-queued ∙ rw (ne-eqb _ _ n)) (λ u q. refl));
         running =
             running-of s (putCall (T .calls) t d) (T .device) t (g .running) (g .thread)
             (λ q.
-            n (ap (λ (k : Call). k .stage) (sym (put-mine s (T .calls) t d (g .facts .threads .long) (g .thread))) ∙ q));
+            n (ap (λ (k : Call). k .stage) (sym (put-mine s (T .calls) t d (facts (g .sound) .threads .long) (g .thread))) ∙ q));
       }
 
   -- the step changes this call and nothing else, and neither call has a block in hand
@@ -142,8 +111,8 @@ module _ {s : Shape} {T : State} {t : ℕ} {c : Call} (g : Runs s T t c) where
       callKept s (T .device .clock) d ≡ true → Facts s (onlyCall T t d)
   only-call d x y n k =
       record {
-        pool = g .facts .pool;
+        pool = facts (g .sound) .pool;
         threads =
-            threads-after d (T .states) n k (idle-after ALLOCATING DIVIDING d refl x y (g .facts .threads .allocating))
-            (idle-after FREEING RELEASING d refl x y (g .facts .threads .freeing));
+            threads-after d (T .states) n k (idle-after ALLOCATING DIVIDING d refl x y (facts (g .sound) .threads .allocating))
+            (idle-after FREEING RELEASING d refl x y (facts (g .sound) .threads .freeing));
       }

@@ -23,12 +23,12 @@ use Rattle.rules.specs.Numbers.{ALLOCATED, FREE, FREEING, DIVIDING, RELEASING}
 use Rattle.rules.specs.Tables.{State, stateAt, freeList, putList, queueOf}
 use Rattle.rules.specs.Valid.{buddiesMerged}
 use Rattle.rules.specs.Steps.{closed, firstBuddy, merges, settleStep}
-use Rattle.preserve.specs.Lines.{Facts}
-use Rattle.preserve.specs.CallLines.{uses-block, closed-kept}
+use Rattle.history.specs.Running.{Running, uses-block, freeing}
+use Rattle.preserve.specs.Lines.{Facts, facts}
+use Rattle.preserve.specs.CallLines.{closed-kept}
 use Rattle.preserve.specs.States.{owners-alike}
 use Rattle.preserve.specs.FreeLists.{Lists, listing, listed-at, listing-put}
 use Rattle.preserve.specs.OneState.{Stands, turn, level-eqb, alike-turn, count-turn, other-level}
-use Rattle.preserve.specs.Runs.{Runs}
 use Rattle.preserve.specs.Turns.{held, none-held, hand-stands, Turn, turned}
 use Rattle.preserve.specs.Wakes.{wakes-kept}
 
@@ -81,10 +81,10 @@ module _ (s : Shape) (states : List ℕ) (l b : ℕ) (h : b < count s l) where
           others m a i k (λ j r w x. q (sym (part-of (parts s) a j r) ∙ ap (λ (y : ℕ). y / parts s) x))
       at m a i k (no p) q = others m a i k (λ j r w x. p w)
 
-module _ {s : Shape} {T : State} {t : ℕ} {c : Call} (g : Runs s T t c) (e : c .stage ≡ RELEASING)
+module _ {s : Shape} {T : State} {t : ℕ} {c : Call} (g : Running s T t c) (e : c .stage ≡ RELEASING)
     (n : merges s (T .states) (c .level) (c .block) ≡ false) where
   stands : Stands s (T .states) (c .level) (c .block) FREEING
-  stands = hand-stands g FREEING RELEASING (g .facts .threads .freeing) (uses-block c RELEASING e) e
+  stands = hand-stands g FREEING (uses-block c RELEASING e) (freeing g e)
 
   -- the list with the block at its end names the blocks that are FREE now
   longer :
@@ -111,7 +111,7 @@ module _ {s : Shape} {T : State} {t : ℕ} {c : Call} (g : Runs s T t c) (e : c 
       }
     where
       here : Lists s (T .states) (c .level) (freeList s (T .lists) (c .level))
-      here = listed-at (listing (g .facts .pool)) (c .level) (stands .level)
+      here = listed-at (listing (facts (g .sound) .pool)) (c .level) (stands .level)
 
   freed :
       Turn s T c closed (c .level) (c .block) FREEING FREE (T .owners)
@@ -122,13 +122,13 @@ module _ {s : Shape} {T : State} {t : ℕ} {c : Call} (g : Runs s T t c) (e : c 
         known = refl;
         exists = refl;
         undivided = refl;
-        merged = merged-settled s (T .states) (c .level) (c .block) (stands .block) n (g .facts .pool .merged);
-        ownersLong = g .facts .pool .ownersLong;
+        merged = merged-settled s (T .states) (c .level) (c .block) (stands .block) n (facts (g .sound) .pool .merged);
+        ownersLong = facts (g .sound) .pool .ownersLong;
         owned =
             owners-alike s (T .states) _ (T .owners) (alike-turn stands FREE (λ n. eqb n ALLOCATED) refl)
-            (g .facts .pool .owned);
+            (facts (g .sound) .pool .owned);
         listing =
-            listing-put (listing (g .facts .pool)) (stands .level) longer
+            listing-put (listing (facts (g .sound) .pool)) (stands .level) longer
             (λ m a d i h. ap (λ (n : ℕ). eqb n FREE) (other-level stands FREE m a d h));
         from = held s c (stands .block);
         to = none-held s (place s (c .level) (c .block)) closed (λ n. omega arith) (λ n. omega arith);

@@ -8,9 +8,9 @@ use Prim.Native.Nat.{ℕ, zero, suc, _+_, _*_, _-_, _/_, _≤_, _<_}
 use native.Mathlib.Nat.{mul-div-right}
 use native.Mathlib.Decide.{decLt}
 use native.Mathlib.Omega.{arith}
-use lib.ListN.{getD, replicate, length-replicate, getD-replicate}
-use lib.Dec.{leb, ltb, eqb}
-use borrow.Author.Tests.{ltb-true, leb-true}
+use lib.ListN.{length, getD, replicate, length-replicate, getD-replicate}
+use lib.Dec.{leb, eqb}
+use borrow.Author.Tests.{leb-true}
 use Rattle.laws.specs.Tests.{bit, every-not}
 use Rattle.laws.specs.Lists.{times, upFrom}
 use Rattle.laws.specs.Times.{times-append}
@@ -18,7 +18,7 @@ use Rattle.laws.specs.Changes.{times-among, times-outside, part-of}
 use Rattle.shape.specs.declared.Shape.{Shape}
 use Rattle.shape.specs.Limits.{parts}
 use Rattle.shape.specs.Blocks.{count, place, levelFor}
-use Rattle.shape.specs.Laws.{parts-pos, levelFor-inside}
+use Rattle.shape.specs.Laws.{parts-pos, levelFor-inside, limits}
 use Rattle.shape.specs.Sections.{part-inside}
 use Rattle.rules.specs.declared.Call.{Call}
 use Rattle.rules.specs.Numbers.{ALLOCATED, FREE, DIVIDED, NOEXIST, FREEING, ALLOCATING, DIVIDING, RELEASING}
@@ -26,20 +26,24 @@ use Rattle.rules.specs.Tables.{State, stateAt, freeList}
 use Rattle.rules.specs.Valid.{usesBlock, inHand, sizeKept}
 use Rattle.rules.specs.Steps.{holding, splitStep}
 use Rattle.rules.specs.Room.{parts-none}
-use Rattle.preserve.specs.Lines.{Facts}
-use Rattle.preserve.specs.CallLines.{uses-block, dividing-kept}
+use Rattle.history.specs.Running.{Running, own-facts, uses-block, hand-placed, allocating}
+use Rattle.preserve.specs.Lines.{Facts, facts}
+use Rattle.preserve.specs.CallLines.{dividing-kept}
 use Rattle.preserve.specs.OneCall.{not-in-hand, hand-there, hand-elsewhere}
 use Rattle.preserve.specs.FreeLists.{Lists, listing, listed-at}
-use Rattle.preserve.specs.Runs.{Runs, own-facts, hand-placed, hand-is, hands-after}
+use Rattle.preserve.specs.Runs.{hands-after}
 use Rattle.preserve.specs.Family.{Family, family, family-alike}
 use Rattle.preserve.specs.FamilyLists.{Relists, listing-family}
 use Rattle.preserve.specs.FamilyKept.{HandsPassed, hands-family, family-kept}
 
 -- what the parts become: the first ALLOCATING, the others FREE
-abbrev split : Shape → List ℕ
+abbrev pub split : Shape → List ℕ
 split s = ALLOCATING ∷ replicate (parts s - 1) FREE
 
-split-later : (s : Shape) (j : ℕ) → suc j < parts s → getD (split s) (suc j) 0 ≡ FREE
+pub split-wide : (s : Shape) → length (split s) ≡ parts s
+split-wide s = omega (arith, length-replicate (parts s - 1) FREE, parts-pos s)
+
+pub split-later : (s : Shape) (j : ℕ) → suc j < parts s → getD (split s) (suc j) 0 ≡ FREE
 split-later s j h = getD-replicate (parts s - 1) j FREE 0 (omega arith)
 
 -- what a test says of both it says of each
@@ -53,29 +57,29 @@ split-test s τ x e f (suc j) h = ap τ (split-later s j h) ∙ f
 abbrev first : Shape → Call → Call
 first s c = holding DIVIDING (c .size) (c .level + 1) (parts s * c .block)
 
-module _ {s : Shape} {T : State} {t : ℕ} {c : Call} (g : Runs s T t c) (e : c .stage ≡ DIVIDING)
-    (above : ltb (c .level) (levelFor s (c .size)) ≡ true) where
+module _ {s : Shape} {T : State} {t : ℕ} {c : Call} (g : Running s T t c) (e : c .stage ≡ DIVIDING)
+    (above : c .level < levelFor s (c .size)) where
   used : usesBlock c ≡ true
   used = uses-block c DIVIDING e
 
   target : c .level + 1 ≤ levelFor s (c .size)
-  target = omega (arith, ltb-true (c .level) (levelFor s (c .size)) above)
+  target = omega arith
 
   parted : Family s (T .states) (c .level) (c .block) (split s)
   parted =
       record {
-        long = g .facts .pool .long;
-        level = omega (arith, target, levelFor-inside s (c .size) (g .shape .levels .0));
+        long = facts (g .sound) .pool .long;
+        level = omega (arith, target, levelFor-inside s (c .size) (limits s (g .sound .shape) .levels .0));
         block = hand-placed g used .1;
-        wide = omega (arith, length-replicate (parts s - 1) FREE, parts-pos s);
+        wide = split-wide s;
       }
 
   was : stateAt s (T .states) (c .level) (c .block) ≡ ALLOCATING
-  was = hand-is g ALLOCATING DIVIDING (g .facts .threads .allocating) used e
+  was = allocating g e
 
   none : (j : ℕ) → j < parts s → stateAt s (T .states) (c .level + 1) (parts s * c .block + j) ≡ NOEXIST
   none j h =
-      parts-none s (T .states) (g .facts .pool .parts) (c .level) (c .block) j (parted .level) (parted .block) h
+      parts-none s (T .states) (facts (g .sound) .pool .parts) (c .level) (c .block) j (parted .level) (parted .block) h
       (λ q. omega (arith, was))
 
   alike-split :
@@ -101,7 +105,7 @@ module _ {s : Shape} {T : State} {t : ℕ} {c : Call} (g : Runs s T t c) (e : c 
       }
     where
       here : Lists s (T .states) (c .level + 1) (freeList s (T .lists) (c .level + 1))
-      here = listed-at (listing (g .facts .pool)) (c .level + 1) (parted .level)
+      here = listed-at (listing (facts (g .sound) .pool)) (c .level + 1) (parted .level)
 
       outside :
           (a : ℕ) → (a < parts s * c .block + 1) ⊎ (parts s * c .block + 1 + (parts s - 1) ≤ a) →
@@ -189,10 +193,10 @@ module _ {s : Shape} {T : State} {t : ℕ} {c : Call} (g : Runs s T t c) (e : c 
         made = split-test s (λ x. not (eqb x NOEXIST)) true refl refl;
         free = ap (λ (x : ℕ). eqb x FREE) (sym was);
         unmerged = every-not (parts s) _ 0 (parts-pos s) refl;
-        listing = listing-family parted DIVIDED (listing (g .facts .pool)) relists (ap (λ (x : ℕ). eqb x FREE) (sym was));
-        allocating = hands-family g parted passed (g .facts .threads .allocating);
+        listing = listing-family parted DIVIDED (listing (facts (g .sound) .pool)) relists (ap (λ (x : ℕ). eqb x FREE) (sym was));
+        allocating = hands-family g parted passed (facts (g .sound) .threads .allocating);
         freeing =
-            hands-after g FREEING RELEASING (first s c) _ (g .facts .threads .freeing)
+            hands-after g FREEING RELEASING (first s c) _ (facts (g .sound) .threads .freeing)
             (λ m a i h.
             rw (
               alike-split (λ x. eqb x FREEING) refl refl refl (place s m a),

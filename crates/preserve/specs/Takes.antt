@@ -11,24 +11,26 @@ use Rattle.laws.specs.Tests.{bit}
 use Rattle.laws.specs.Changes.{implied, times-cons}
 use Rattle.shape.specs.declared.Shape.{Shape}
 use Rattle.shape.specs.Blocks.{count, place, levelFor}
+use Rattle.shape.specs.Laws.{limits}
 use Rattle.rules.specs.declared.Call.{Call}
 use Rattle.rules.specs.Numbers.{ALLOCATED, FREE, ALLOCATING, ASKED, FOUND, DIVIDING, RELEASING}
 use Rattle.rules.specs.Tables.{State, freeList, putList}
 use Rattle.rules.specs.Valid.{foundKept}
-use Rattle.rules.specs.Steps.{holding, moved, takeFrom, takeStep}
+use Rattle.rules.specs.Steps.{holding, moved, takeFrom}
 use Rattle.rules.specs.Room.{found-inside}
-use Rattle.theorems.specs.Given.{listed-free}
-use Rattle.preserve.specs.Lines.{Facts}
-use Rattle.preserve.specs.CallLines.{uses-block, asked-kept, dividing-kept}
+use Rattle.history.specs.Given.{listed-free}
+use Rattle.history.specs.Running.{Running, own-facts, uses-block}
+use Rattle.preserve.specs.Lines.{Facts, facts}
+use Rattle.preserve.specs.CallLines.{asked-kept, dividing-kept}
 use Rattle.preserve.specs.States.{merged-less, owners-alike}
 use Rattle.preserve.specs.FreeLists.{Lists, listing, listed-at, listing-put}
 use Rattle.preserve.specs.OneState.{Stands, turn, level-eqb, alike-turn, count-turn, less-turn, other-level}
-use Rattle.preserve.specs.Runs.{Runs, own-facts, asking, only-call}
+use Rattle.preserve.specs.Runs.{asking, only-call}
 use Rattle.preserve.specs.Turns.{held, none-held, Turn, turned}
 
-module _ {s : Shape} {T : State} {t : ℕ} {c : Call} (g : Runs s T t c) (e : c .stage ≡ FOUND) where
+module _ {s : Shape} {T : State} {t : ℕ} {c : Call} (g : Running s T t c) (e : c .stage ≡ FOUND) where
   level : c .level < s .levels
-  level = found-inside s c (g .shape .levels .0) (own-facts g .found) e
+  level = found-inside s c (limits s (g .sound .shape) .levels .0) (own-facts g .found) e
 
   target : c .level ≤ levelFor s (c .size)
   unfolding foundKept
@@ -36,15 +38,15 @@ module _ {s : Shape} {T : State} {t : ℕ} {c : Call} (g : Runs s T t c) (e : c 
 
   module _ (b : ℕ) (bs : List ℕ) (q : freeList s (T .lists) (c .level) ≡ b ∷ bs) where
     here : Lists s (T .states) (c .level) (b ∷ bs)
-    here = rw q at (listed-at (listing (g .facts .pool)) (c .level) level)
+    here = rw q at (listed-at (listing (facts (g .sound) .pool)) (c .level) level)
 
     first : Stands s (T .states) (c .level) b FREE
     first =
         record {
-          long = g .facts .pool .long;
+          long = facts (g .sound) .pool .long;
           level = level;
           block = inside (decLt b (count s (c .level)));
-          was = listed-free s (T .states) (T .lists) (g .facts .pool .listed) (c .level) b bs level q;
+          was = listed-free s (T .states) (T .lists) (facts (g .sound) .pool .listed) (c .level) b bs level q;
         }
       where
         inside : Dec (b < count s (c .level)) → b < count s (c .level)
@@ -75,13 +77,13 @@ module _ {s : Shape} {T : State} {t : ℕ} {c : Call} (g : Runs s T t c) (e : c 
           known = refl;
           exists = refl;
           undivided = refl;
-          merged = merged-less s (T .states) _ (less-turn first ALLOCATING refl) (g .facts .pool .merged);
-          ownersLong = g .facts .pool .ownersLong;
+          merged = merged-less s (T .states) _ (less-turn first ALLOCATING refl) (facts (g .sound) .pool .merged);
+          ownersLong = facts (g .sound) .pool .ownersLong;
           owned =
               owners-alike s (T .states) _ (T .owners) (alike-turn first ALLOCATING (λ n. eqb n ALLOCATED) refl)
-              (g .facts .pool .owned);
+              (facts (g .sound) .pool .owned);
           listing =
-              listing-put (listing (g .facts .pool)) level rest
+              listing-put (listing (facts (g .sound) .pool)) level rest
               (λ m a d i h. ap (λ (n : ℕ). eqb n FREE) (other-level first ALLOCATING m a d h));
           from = none-held s (place s (c .level) b) c (λ n. omega arith) (λ n. omega arith);
           to = held s (holding DIVIDING (c .size) (c .level) b) (first .block);
@@ -93,12 +95,14 @@ module _ {s : Shape} {T : State} {t : ℕ} {c : Call} (g : Runs s T t c) (e : c 
               (asking g FOUND e refl refl .size);
         }
 
-  pub take-kept : Facts s (takeStep s T t c .after)
-  unfolding takeStep takeFrom
-  take-kept = at (freeList s (T .lists) (c .level)) refl
-    where
-      at : (bs : List ℕ) → freeList s (T .lists) (c .level) ≡ bs → Facts s (takeFrom s T t c bs .after)
-      at [] q =
-          only-call g (moved c ASKED 0) (uses-block c FOUND e) refl (λ n. omega arith)
-          (asked-kept s (T .device .clock) c (asking g FOUND e refl refl))
-      at (b ∷ bs) q = turned g (taken b bs q)
+  -- it is taken
+  pub take-kept : (b : ℕ) (bs : List ℕ) → freeList s (T .lists) (c .level) ≡ b ∷ bs → Facts s (takeFrom s T t c (b ∷ bs) .after)
+  unfolding takeFrom
+  take-kept b bs q = turned g (taken b bs q)
+
+  -- or the list has emptied
+  pub again-kept : Facts s (takeFrom s T t c [] .after)
+  unfolding takeFrom
+  again-kept =
+      only-call g (moved c ASKED 0) (uses-block c FOUND e) refl (λ n. omega arith)
+      (asked-kept s (T .device .clock) c (asking g FOUND e refl refl))

@@ -11,13 +11,14 @@ use Rattle.shape.specs.declared.Shape.{Shape}
 use Rattle.shape.specs.Blocks.{count, place, blocks}
 use Rattle.rules.specs.declared.Call.{Call}
 use Rattle.rules.specs.Numbers.{DIVIDED, NOEXIST, FREEING, ALLOCATING, DIVIDING, RELEASING, WAITING}
-use Rattle.rules.specs.Tables.{State, state, putCall}
+use Rattle.rules.specs.Tables.{State, state, stateAt, putCall}
 use Rattle.rules.specs.Valid.{usesBlock, inHand, oneToOne, ownersKnown, buddiesMerged, callKept}
-use Rattle.preserve.specs.Lines.{Facts}
+use Rattle.history.specs.Running.{Running, hand-placed}
+use Rattle.preserve.specs.Lines.{Facts, facts}
 use Rattle.preserve.specs.States.{known-alike, tops-alike, parts-alike, deepest-alike}
 use Rattle.preserve.specs.FreeLists.{Listing}
 use Rattle.preserve.specs.OneState.{Stands, turn, place-eqb, long-turn, alike-turn, count-turn}
-use Rattle.preserve.specs.Runs.{Runs, hand-placed, hand-is, hands-after, threads-after}
+use Rattle.preserve.specs.Runs.{hands-after, threads-after}
 
 -- the block in hand of a call at this stage, if any, stands at place k
 abbrev HandAt : Shape → ℕ → ℕ → Call → Type 0
@@ -59,18 +60,13 @@ pub record Turn (s : Shape) (T : State) (c d : Call) (l b x v : ℕ) (owners lis
   pub ready : d .stage ≡ WAITING → ⊥
   pub kept : callKept s (T .device .clock) d ≡ true
 
-module _ {s : Shape} {T : State} {t : ℕ} {c : Call} (g : Runs s T t c) where
+module _ {s : Shape} {T : State} {t : ℕ} {c : Call} (g : Running s T t c) where
   -- the block in hand is in the state that corresponds to the call's stage
   pub hand-stands :
-      (st stage : ℕ) → oneToOne st stage s (T .states) (T .calls) ≡ true → usesBlock c ≡ true → c .stage ≡ stage →
+      (st : ℕ) → usesBlock c ≡ true → stateAt s (T .states) (c .level) (c .block) ≡ st →
       Stands s (T .states) (c .level) (c .block) st
-  hand-stands st stage k u e =
-      record {
-        long = g .facts .pool .long;
-        level = hand-placed g u .0;
-        block = hand-placed g u .1;
-        was = hand-is g st stage k u e;
-      }
+  hand-stands st u e =
+      record { long = facts (g .sound) .pool .long; level = hand-placed g u .0; block = hand-placed g u .1; was = e }
 
   -- a state leaves or enters where a call does
   hands-turn :
@@ -93,24 +89,24 @@ module _ {s : Shape} {T : State} {t : ℕ} {c : Call} (g : Runs s T t c) where
               long = long-turn (m .stands) v;
               ownersLong = m .ownersLong;
               listsLong = m .listing .long;
-              known = known-alike s (T .states) _ (alike-turn (m .stands) v (λ n. leb n 5) (m .known)) (g .facts .pool .known);
+              known = known-alike s (T .states) _ (alike-turn (m .stands) v (λ n. leb n 5) (m .known)) (facts (g .sound) .pool .known);
               owned = m .owned;
               tops =
                   tops-alike s (T .states) _ (alike-turn (m .stands) v (λ n. eqb n NOEXIST) (m .exists))
-                  (g .facts .pool .tops);
+                  (facts (g .sound) .pool .tops);
               parts =
                   parts-alike s (T .states) _ (alike-turn (m .stands) v (λ n. eqb n NOEXIST) (m .exists))
                   (alike-turn (m .stands) v (λ n. eqb n DIVIDED) (m .undivided))
-                  (g .facts .pool .parts);
+                  (facts (g .sound) .pool .parts);
               deepest =
                   deepest-alike s (T .states) _ (alike-turn (m .stands) v (λ n. eqb n DIVIDED) (m .undivided))
-                  (g .facts .pool .deepest);
+                  (facts (g .sound) .pool .deepest);
               merged = m .merged;
               ends = m .listing .ends;
               listed = m .listing .listed;
             };
         threads =
             threads-after g d (turn s (T .states) l b v) (m .ready) (m .kept)
-            (hands-turn d v ALLOCATING DIVIDING (m .stands) (m .from .0) (m .to .0) (m .dividing) (g .facts .threads .allocating))
-            (hands-turn d v FREEING RELEASING (m .stands) (m .from .1) (m .to .1) (m .releasing) (g .facts .threads .freeing));
+            (hands-turn d v ALLOCATING DIVIDING (m .stands) (m .from .0) (m .to .0) (m .dividing) (facts (g .sound) .threads .allocating))
+            (hands-turn d v FREEING RELEASING (m .stands) (m .from .1) (m .to .1) (m .releasing) (facts (g .sound) .threads .freeing));
       }

@@ -24,7 +24,8 @@ use Rattle.rules.specs.Room.{CallFacts}
 use Rattle.calls.specs.Call.{callOf-same}
 use Rattle.calls.specs.Wake.{wake-cell}
 use Rattle.laws.specs.Changes.{times-cons}
-use Rattle.preserve.specs.CallLines.{Asks, asks, call-kept-of, fields, uses-block, uses-wait, asked-kept}
+use Rattle.history.specs.Running.{uses-block}
+use Rattle.preserve.specs.CallLines.{Asks, asks, call-kept-of, fields, uses-wait, asked-kept}
 
 -- the call of a thread that wakes
 abbrev pub woken : Call → Call

@@ -12,18 +12,18 @@ use lib.Dec.{eqb}
 use borrow.Author.Tests.{eqb-true}
 use Rattle.laws.specs.Tests.{bit, both}
 use Rattle.shape.specs.declared.Shape.{Shape}
-use Rattle.shape.specs.Limits.{parts, allowed}
+use Rattle.shape.specs.Limits.{parts}
 use Rattle.shape.specs.Blocks.{id}
 use Rattle.rules.specs.declared.Call.{Call}
 use Rattle.rules.specs.declared.Answer.the-variants.{Granted, Merged, Settled}
 use Rattle.rules.specs.Numbers.{DIVIDING, RELEASING}
-use Rattle.rules.specs.Tables.{State, lengths, queueOf, callOf}
-use Rattle.rules.specs.Valid.{valid}
+use Rattle.rules.specs.Tables.{State, queueOf, callOf}
 use Rattle.rules.specs.Steps.{closed, holding}
 use Rattle.rules.specs.Calls.{goOn}
-use Rattle.theorems.specs.History.{Step, Build, Ask, GoOn, Give, Switch, Tick, Whole, stepOn, runSteps}
+use Rattle.history.specs.History.{Step, Build, Ask, GoOn, Give, Switch, Tick, Whole, stepOn, runSteps}
+use Rattle.history.specs.Running.{Sound, Running}
 use Rattle.preserve.specs.Histories.{steps-valid, runs-valid}
-use Rattle.progress.specs.Own.{Turn, leftOf, left-falls, own-grants, own-releases}
+use Rattle.progress.specs.Own.{leftOf, Next, left-falls, own-grants, own-releases}
 use Rattle.progress.specs.Stays.{builds, turn, call-stays}
 
 -- how many turns thread u has in a history: its go-on steps while it runs
@@ -46,34 +46,14 @@ pub record Divides (s : Shape) (before after : Call) (n : ℕ) : Type 0 where
   pub size : after .size ≡ before .size
   pub left : leftOf s after + n ≡ leftOf s before
 
--- tables that are valid, with thread u's call
-pub record Kept (s : Shape) (T : State) (u : ℕ) : Type 0 where
-  pub shape : allowed s ≡ true
-  pub lengths : lengths s T ≡ true
-  pub valid : valid s T ≡ true
-  pub thread : u < s .threads
-
-module _ (s : Shape) (T : State) (u : ℕ) (g : Kept s T u) where
-  kept-next : (x : Step) → Kept s (stepOn s T x .after) u
-  kept-next x =
-      let k = steps-valid s T x (g .shape) (g .lengths) (g .valid) in
-      record { shape = g .shape; lengths = k .0; valid = k .1; thread = g .thread }
-
+module _ (s : Shape) (T : State) (u : ℕ) (k : Sound s T) (thread : u < s .threads) where
   -- a turn is the thread's go on, while it runs
-  turn-is : (x : Step) → turn T u x ≡ true → (x ≡ GoOn u) × Turn s T u
+  turn-is : (x : Step) → turn T u x ≡ true → (x ≡ GoOn u) × Running s T u (callOf (T .calls) u)
   turn-is Build e = absurd (false≢true e)
   turn-is (Ask t size ms) e = absurd (false≢true e)
   turn-is (GoOn t) e =
-      let w = both (eqb t u) (eqb (T .device .running) (u + 1)) e in (
-        ap GoOn (eqb-true t u (w .0)),
-        record {
-          shape = g .shape;
-          lengths = g .lengths;
-          valid = g .valid;
-          thread = g .thread;
-          running = eqb-true _ _ (w .1);
-        },
-      )
+      let w = both (eqb t u) (eqb (T .device .running) (u + 1)) e in
+      (ap GoOn (eqb-true t u (w .0)), record { sound = k; thread = thread; running = eqb-true _ _ (w .1); own = refl })
   turn-is (Give t i) e = absurd (false≢true e)
   turn-is (Switch t) e = absurd (false≢true e)
   turn-is Tick e = absurd (false≢true e)
@@ -88,10 +68,10 @@ module _ (s : Shape) (T : State) (u : ℕ) (g : Kept s T u) where
   divides-one x true e n d h =
       let w = turn-is x e in
       rw (w .0)
-      (let f = left-falls s T u (w .1) d (leftOf s (callOf (T .calls) u) - 1) (omega arith) in
+      (let f = left-falls (w .1) d (leftOf s (callOf (T .calls) u) - 1) (omega arith) _ refl in
       record { stage = f .0; size = f .1; left = omega (arith, f .2) })
   divides-one x false e n d h =
-      rw (call-stays s T u (g .thread) (λ q. omega (arith, sym d ∙ q)) (λ q. omega (arith, sym d ∙ q)) x n e)
+      rw (call-stays s T u thread (λ q. omega (arith, sym d ∙ q)) (λ q. omega (arith, sym d ∙ q)) x n e)
       (record { stage = d; size = refl; left = omega arith })
 
   -- releasing, one step: the level falls by the turn, or the call is closed
@@ -101,35 +81,33 @@ module _ (s : Shape) (T : State) (u : ℕ) (g : Kept s T u) where
       × (callOf (stepOn s T x .after .calls) u .level + bit b ≡ callOf (T .calls) u .level))
       ⊎ (callOf (stepOn s T x .after .calls) u ≡ closed)
   unfolding stepOn
-  releases-one x true e n d = let w = turn-is x e in rw (w .0) (pick (own-releases s T u (w .1) d))
+  releases-one x true e n d = let w = turn-is x e in rw (w .0) (pick (own-releases (w .1) d))
     where
       pick :
           ((0 < callOf (T .calls) u .level)
-          × (callOf (goOn s T u .after .calls) u
-          ≡ holding RELEASING 0 (callOf (T .calls) u .level - 1) (callOf (T .calls) u .block / parts s))
-          × (goOn s T u .answer ≡ Merged (id s (callOf (T .calls) u .level - 1) (callOf (T .calls) u .block / parts s))))
-          ⊎ ((callOf (goOn s T u .after .calls) u ≡ closed) × (goOn s T u .answer ≡ Settled (length (queueOf (T .queue))))) →
+          × Next (goOn s T u) u (holding RELEASING 0 (callOf (T .calls) u .level - 1) (callOf (T .calls) u .block / parts s))
+          (Merged (id s (callOf (T .calls) u .level - 1) (callOf (T .calls) u .block / parts s))))
+          ⊎ Next (goOn s T u) u closed (Settled (length (queueOf (T .queue)))) →
           ((callOf (goOn s T u .after .calls) u .stage ≡ RELEASING)
           × (callOf (goOn s T u .after .calls) u .level + 1 ≡ callOf (T .calls) u .level))
           ⊎ (callOf (goOn s T u .after .calls) u ≡ closed)
-      pick (inl (h, q, _)) =
-          inl (ap (λ (c : Call). c .stage) q, omega (arith, h, ap (λ (c : Call). c .level) q))
-      pick (inr (q, _)) = inr q
+      pick (inl (h, q)) = inl (ap (λ (c : Call). c .stage) (q .1), omega (arith, h, ap (λ (c : Call). c .level) (q .1)))
+      pick (inr q) = inr (q .1)
   releases-one x false e n d =
       inl
-      (rw (call-stays s T u (g .thread) (λ q. omega (arith, sym d ∙ q)) (λ q. omega (arith, sym d ∙ q)) x n e)
+      (rw (call-stays s T u thread (λ q. omega (arith, sym d ∙ q)) (λ q. omega (arith, sym d ∙ q)) x n e)
       (d, omega arith))
 
 -- so over a history
 pub divides-on :
-    (s : Shape) (u : ℕ) (xs : List Step) (T : State) → Kept s T u → built xs ≡ false →
+    (s : Shape) (u : ℕ) (xs : List Step) (T : State) → Sound s T → u < s .threads → built xs ≡ false →
     callOf (T .calls) u .stage ≡ DIVIDING → turns s T u xs ≤ leftOf s (callOf (T .calls) u) →
     Divides s (callOf (T .calls) u) (callOf (runSteps s T xs .calls) u) (turns s T u xs)
 unfolding turns built runSteps
-divides-on s u [] T g n d h = record { stage = d; size = refl; left = omega arith }
-divides-on s u (x ∷ xs) T g n d h =
-    go (divides-one s T u g x (turn T u x) refl (w .0) d (omega arith))
-    (divides-on s u xs (stepOn s T x .after) (kept-next s T u g x) (w .1))
+divides-on s u [] T k l n d h = record { stage = d; size = refl; left = omega arith }
+divides-on s u (x ∷ xs) T k l n d h =
+    go (divides-one s T u k l x (turn T u x) refl (w .0) d (omega arith))
+    (divides-on s u xs (stepOn s T x .after) (steps-valid s T x k) l (w .1))
   where
     w : (builds x ≡ false) × (built xs ≡ false)
     w = neither (builds x) (built xs) n
@@ -152,33 +130,29 @@ divides-on s u (x ∷ xs) T g n d h =
 
 -- after as many turns as there were splits left the thread's next turn grants the block and closes the call
 pub divides-ends :
-    (s : Shape) (u : ℕ) (xs : List Step) (T : State) → Kept s T u → built xs ≡ false →
+    (s : Shape) (u : ℕ) (xs : List Step) (T : State) → Sound s T → u < s .threads → built xs ≡ false →
     callOf (T .calls) u .stage ≡ DIVIDING → turns s T u xs ≡ leftOf s (callOf (T .calls) u) →
     runSteps s T xs .device .running ≡ u + 1 →
     (stepOn s (runSteps s T xs) (GoOn u) .answer
     ≡ Granted (id s (callOf (runSteps s T xs .calls) u .level) (callOf (runSteps s T xs .calls) u .block)))
     × (callOf (stepOn s (runSteps s T xs) (GoOn u) .after .calls) u ≡ closed)
 unfolding stepOn
-divides-ends s u xs T g n d e r = own-grants s (runSteps s T xs) u its-turn (was .stage) (omega (arith, was .left))
+divides-ends s u xs T k l n d e r =
+    own-grants (record { sound = runs-valid s xs T k; thread = l; running = r; own = refl }) (was .stage) (omega (arith, was .left))
   where
     was : Divides s (callOf (T .calls) u) (callOf (runSteps s T xs .calls) u) (turns s T u xs)
-    was = divides-on s u xs T g n d (omega arith)
-
-    its-turn : Turn s (runSteps s T xs) u
-    its-turn =
-        let k = runs-valid s xs (g .shape) T (g .lengths) (g .valid) in
-        record { shape = g .shape; lengths = k .0; valid = k .1; thread = g .thread; running = r }
+    was = divides-on s u xs T k l n d (omega arith)
 
 -- a releasing call is closed somewhere in a history in which its thread has more turns than the block's level
 pub releases-end :
-    (s : Shape) (u : ℕ) (xs : List Step) (T : State) → Kept s T u → built xs ≡ false →
+    (s : Shape) (u : ℕ) (xs : List Step) (T : State) → Sound s T → u < s .threads → built xs ≡ false →
     callOf (T .calls) u .stage ≡ RELEASING → callOf (T .calls) u .level < turns s T u xs →
     (n : ℕ) × (callOf (runSteps s T (take n xs) .calls) u ≡ closed)
 unfolding turns built runSteps
-releases-end s u [] T g n d h = absurd (omega arith)
-releases-end s u (x ∷ xs) T g n d h =
-    go (releases-one s T u g x (turn T u x) refl (w .0) d)
-    (releases-end s u xs (stepOn s T x .after) (kept-next s T u g x) (w .1))
+releases-end s u [] T k l n d h = absurd (omega arith)
+releases-end s u (x ∷ xs) T k l n d h =
+    go (releases-one s T u k l x (turn T u x) refl (w .0) d)
+    (releases-end s u xs (stepOn s T x .after) (steps-valid s T x k) l (w .1))
   where
     w : (builds x ≡ false) × (built xs ≡ false)
     w = neither (builds x) (built xs) n

@@ -18,7 +18,7 @@ use Rattle.rules.specs.Tables.{State, callOf, fresh}
 use Rattle.rules.specs.Valid.{deadlineKept, mayWait, valid}
 use Rattle.rules.specs.Facts.{valid-facts}
 use Rattle.rules.specs.Room.{CallFacts, call-facts}
-use Rattle.theorems.specs.History.{Step, runSteps}
+use Rattle.history.specs.History.{Step, runSteps}
 use Rattle.preserve.specs.Histories.{histories-valid}
 
 -- the call waits as the rules allow: it may wait, and its deadline, where it has one, is above the clock
@@ -60,4 +60,4 @@ pub histories-wait :
     (s : Shape) (xs : List Step) (n t : ℕ) → allowed s ≡ true → t < s .threads →
     callOf (runSteps s (fresh s) (take n xs) .calls) t .stage ≡ WAITING →
     Waits (runSteps s (fresh s) (take n xs) .device .clock) (callOf (runSteps s (fresh s) (take n xs) .calls) t)
-histories-wait s xs n t a h e = waits s (runSteps s (fresh s) (take n xs)) t (histories-valid s xs n a .1) h e
+histories-wait s xs n t a h e = waits s (runSteps s (fresh s) (take n xs)) t (histories-valid s xs n a .valid) h e

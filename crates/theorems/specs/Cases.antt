@@ -12,7 +12,7 @@ use Rattle.shape.specs.Time.{ticks}
 use Rattle.rules.specs.Numbers.{ALLOCATED, FREE, DIVIDED}
 use Rattle.rules.specs.Tables.{State, state, freeList, callOf}
 use Rattle.theorems.specs.Table.{Case, row, same, agree, Holds, agree-holds}
-use Rattle.theorems.specs.History.{Step, Build, Ask, GoOn, Give, Switch, Tick, Whole}
+use Rattle.history.specs.History.{Step, Build, Ask, GoOn, Give, Switch, Tick, Whole}
 use Rattle.theorems.specs.Computed.{everyRule, after, numberOn, numberAfter, detailAfter, freeAfter}
 
 -- pool 1 with one top block of 64 bytes, or of 1,024, and this number of levels

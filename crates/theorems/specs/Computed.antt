@@ -16,7 +16,7 @@ use Rattle.rules.specs.Valid.{statesKnown, listEnds, queueEnds, fieldsUsed, top
 use Rattle.rules.specs.Steps.{deepest, noRoom, lookAt, look, takeFrom, takeStep, splitStep, grantStep, divideStep, merges, mergeStep, wake, settleStep, releaseStep, goOnStep}
 use Rattle.rules.specs.Calls.{build, askedCall, askStep, ask, goOn, idOutside, giveBlock, giveStep, give, switchStep, switch, due, tickStep, tick}
 use Rattle.rules.specs.Questions.{isWhole, whole}
-use Rattle.theorems.specs.History.{Step, stepOn, runSteps, answersOf, listing}
+use Rattle.history.specs.History.{Step, stepOn, runSteps, answersOf, listing}
 
 -- where this unfolds every rule does, so that what stands beside it computes
 unfoldable pub everyRule : Bool

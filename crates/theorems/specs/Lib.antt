@@ -1,11 +1,8 @@
 pub mod Table
-pub mod History
 pub mod Computed
 pub mod Cases
 pub mod Script
 pub mod Moves
-pub mod Refusals
-pub mod Given
 pub mod StepsMove
 pub mod CallsMove
 pub mod Made

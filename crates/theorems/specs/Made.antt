@@ -10,8 +10,8 @@ use lib.Dec.{eqb}
 use borrow.Author.Tests.{eqb-true}
 use Rattle.laws.specs.Tests.{every, every-at, both, either}
 use Rattle.rules.specs.Moves.{mayMove}
-use Rattle.theorems.specs.Table.{alike}
-use Rattle.theorems.specs.History.{Step, Whole, stepOn}
+use Rattle.history.specs.Given.{alike}
+use Rattle.history.specs.History.{Step, Whole, stepOn}
 use Rattle.theorems.specs.Computed.{everyRule, after}
 use Rattle.theorems.specs.Script.{scriptShape, script}
 

@@ -6,7 +6,7 @@ use Prim.Native.Nat.{ℕ}
 use lib.IntN.{pos}
 use Rattle.shape.specs.declared.Shape.{Shape}
 use Rattle.rules.specs.Tables.{fresh}
-use Rattle.theorems.specs.History.{Step, Build, Ask, GoOn, Give, Switch, Whole, answersOf, listing}
+use Rattle.history.specs.History.{Step, Build, Ask, GoOn, Give, Switch, Whole, answersOf, listing}
 use Rattle.theorems.specs.Computed.{everyRule}
 
 -- pool 1, 2 threads, 2 levels, 1 top block, 64 bytes

@@ -1,19 +1,12 @@
 -- A table of cases: each row has what the rules compute and what is expected, and one computed test shows all rows.
 -- Assumes nothing.
-use mathlib.Core.Path.{_≡_, refl, sym, ap₂}
-use mathlib.Core.Bool.{Bool, true, false, _&&_, Bool·beq, false≢true}
+use mathlib.Core.Path.{_≡_, refl, ap₂}
+use mathlib.Core.Bool.{Bool, true, false, _&&_, false≢true}
 use mathlib.Core.List.{List, [], _∷_, map}
 use Prim.Native.Nat.{ℕ}
 use lib.Dec.{eqb}
 use borrow.Author.Tests.{eqb-true}
 use Rattle.laws.specs.Tests.{both}
-
--- two tests that agree are one
-pub alike : (x y : Bool) → Bool·beq x y ≡ true → x ≡ y
-alike true true e = refl
-alike true false e = sym e
-alike false true e = e
-alike false false e = refl
 
 pub record Case : Type 0 where
   pub computed : List ℕ

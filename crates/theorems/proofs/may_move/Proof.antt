@@ -9,7 +9,7 @@ use lib.ListN.{getD}
 use borrow.Author.Needs.{needs}
 use Rattle.laws.specs.Tests.{every, every-at}
 use Rattle.rules.specs.Moves.{mayMove}
-use Rattle.theorems.specs.Table.{alike}
+use Rattle.history.specs.Given.{alike}
 use Rattle.theorems.proofs.may_move.Statement.{statement}
 use Rattle.theorems.proofs.may_move.Tie as tie
 

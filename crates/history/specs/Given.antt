@@ -1,7 +1,7 @@
 -- What valid tables give to a step beyond the block in hand: the first block listed, the parent of an existing part, the stage left over.
 -- Assumes nothing.
 use mathlib.Core.Path.{_≡_, refl, sym, _∙_, ap, ap₂}
-use mathlib.Core.Bool.{Bool, true, false, not, _&&_, _||_, Bool·beq, false≢true}
+use mathlib.Core.Bool.{Bool, true, false, not, _&&_, _||_, Bool·beq}
 use mathlib.Core.Logic.{_⊎_, inl, inr}
 use mathlib.Core.List.{List, _∷_}
 use Prim.Native.Nat.{ℕ, _+_, _*_, _-_, _/_, _%_, _≤_, _<_}
@@ -24,6 +24,13 @@ use Rattle.rules.specs.Valid.{fieldsUsed, partsExist, freeListed, runningReady}
 use Rattle.rules.specs.Steps.{firstBuddy}
 use Rattle.rules.specs.Moves.{mayMove}
 use Rattle.rules.specs.Room.{member-inside}
+
+-- two tests that agree are one
+pub alike : (x y : Bool) → Bool·beq x y ≡ true → x ≡ y
+alike true true e = refl
+alike true false e = sym e
+alike false true e = e
+alike false false e = refl
 
 -- what stands first in a list stands in it at least once
 times-first : (b : ℕ) (bs : List ℕ) → 1 ≤ times b (b ∷ bs)
@@ -60,14 +67,8 @@ pub parent-divided :
 unfolding partsExist
 parent-divided s states e l b j h k i n =
     eqb-true _ _
-    (agree (eqb (stateAt s states (l + 1) (parts s * b + j)) NOEXIST) (eqb (stateAt s states l b) DIVIDED)
-    (every-at (parts s) _ (every-at (count s l) _ (every-at (s .levels - 1) _ e l (omega arith)) b k) j i)
-    (ne-eqb _ _ n))
-  where
-    agree : (a b : Bool) → Bool·beq (not a) b ≡ true → a ≡ false → b ≡ true
-    agree true b q w = absurd (false≢true (sym w))
-    agree false true q w = refl
-    agree false false q w = q
+    (sym (alike _ _ (every-at (parts s) _ (every-at (count s l) _ (every-at (s .levels - 1) _ e l (omega arith)) b k) j i))
+    ∙ ap not (ne-eqb _ _ n))
 
 -- a block that merges: its parent is DIVIDED, and each part, itself FREEING and its buddies FREE, may leave
 pub merging :

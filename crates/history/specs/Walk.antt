@@ -1,0 +1,247 @@
+-- One step of a history, walked once: what holds of each way in which a step may end holds of the step.
+-- Assumes nothing.
+use mathlib.Core.Path.{_≡_, refl}
+use mathlib.Core.Bool.{Bool, true, false, not, cond, _&&_, _||_}
+use mathlib.Core.List.{List, [], _∷_, _++_}
+use Prim.Native.Nat.{ℕ, _+_, _≤_, _<_}
+use native.Mathlib.Decide.{decLt, ℕ-discrete}
+use native.Mathlib.Omega.{arith}
+use lib.IntN.{ℤ}
+use lib.ListN.{getD, set}
+use lib.Dec.{eqb}
+use borrow.Author.Tests.{ltb-true, ltb-false, lt-ltb, eqb-true, eqb-false, eq-eqb, ne-eqb, not-false}
+use Rattle.laws.specs.Lists.{keep}
+use Rattle.shape.specs.declared.Shape.{Shape}
+use Rattle.shape.specs.Limits.{allowed}
+use Rattle.shape.specs.Blocks.{place, levelFor, idLevel, idBlock}
+use Rattle.shape.specs.Time.{wait}
+use Rattle.rules.specs.declared.Call.{Call}
+use Rattle.rules.specs.declared.Room.{Room}
+use Rattle.rules.specs.declared.Room.the-variants.{At, Nowhere}
+use Rattle.rules.specs.declared.Refusal.{Refusal}
+use Rattle.rules.specs.declared.Refusal.the-variants.{ShapeNotAllowed, WrongLength, NotValid, NoThread, NotRunning, NoRoom, TimedOut}
+use Rattle.rules.specs.declared.Answer.the-variants.{Refused, Opened, Found, Waiting, Switched, Ticked, Built}
+use Rattle.rules.specs.declared.Answer.the-variants as answers
+use Rattle.rules.specs.Numbers.{ALLOCATED, FREEING, CLOSED, ASKED, FOUND, DIVIDING, RELEASING, WAITING, NEVER, TIMED, CLOCK-END}
+use Rattle.rules.specs.Answers.{refusalNumber}
+use Rattle.rules.specs.Tables.{State, lengths, stateAt, freeList, queueOf, putQueue, callOf, putCall, fresh}
+use Rattle.rules.specs.Valid.{valid}
+use Rattle.rules.specs.Steps.{Outcome, outcome, onlyCall, closed, moved, holding, deepest, noRoom, lookAt, look, takeFrom, takeStep, splitStep, grantStep, divideStep, merges, mergeStep, wake, settleStep, releaseStep, goOnStep}
+use Rattle.rules.specs.Calls.{refuse, checked, byRunning, build, askedCall, isOutside, askStep, ask, goOn, idOutside, giveBlock, giveStep, give, onlyDevice, switchStep, switch, due, tickStep, tick}
+use Rattle.rules.specs.Questions.{isWhole, whole}
+use Rattle.history.specs.History.{Step, Build, Ask, GoOn, Give, Switch, Tick, Whole, stepOn}
+use Rattle.history.specs.Given.{left-over}
+use Rattle.history.specs.Listed.{entry, listedFor}
+use Rattle.history.specs.Running.{Sound, Running, own-facts, ready}
+
+-- a refusal that closes the asker's call: no room, and timed out
+abbrev pub closes : Refusal → Bool
+closes r = eqb (refusalNumber r) 14 || eqb (refusalNumber r) 15
+
+-- a refusal that is listed for the step and leaves all as it was
+abbrev pub leaves : Step → Refusal → Bool
+leaves x r = listedFor (entry x) (refusalNumber r) && not (closes r)
+
+-- thread t blocks: it joins the queue's end, and nobody runs
+abbrev pub blocked : Shape → State → ℕ → Call → State
+blocked s T t c =
+    record {
+      states = T .states;
+      owners = T .owners;
+      lists = T .lists;
+      calls = putCall (T .calls) t (moved c WAITING 0);
+      queue = putQueue (s .threads) (queueOf (T .queue) ++ (t ∷ []));
+      device = record { clock = T .device .clock; running = 0 };
+    }
+
+-- thread t has given back block b of level l
+abbrev pub given : Shape → State → ℕ → ℕ → ℕ → State
+given s T t l b =
+    record {
+      states = set (T .states) (place s l b) FREEING;
+      owners = set (T .owners) (place s l b) 0;
+      lists = T .lists;
+      calls = putCall (T .calls) t (holding RELEASING 0 l b);
+      queue = T .queue;
+      device = T .device;
+    }
+
+-- the clock has ticked, and those who were due are awake
+abbrev pub ticked : Shape → State → State
+ticked s T =
+    record {
+      states = T .states;
+      owners = T .owners;
+      lists = T .lists;
+      calls = wake (T .calls) (keep (due (T .calls) (T .device .clock + 1)) (queueOf (T .queue)));
+      queue = putQueue (s .threads) (keep (λ t. not (due (T .calls) (T .device .clock + 1) t)) (queueOf (T .queue)));
+      device = record { clock = T .device .clock + 1; running = T .device .running };
+    }
+
+-- each way in which a go on of thread t, whose call is c, may end, and what was tested on the way
+pub record EachGoOn (P : Outcome → Type 0) (s : Shape) (T : State) (t : ℕ) (c : Call) : Type 0 where
+  pub ends : (r : Refusal) → closes r ≡ true → c .stage ≡ ASKED → P (outcome (Refused r) (onlyCall T t closed))
+  pub finds :
+      (l : ℕ) → c .stage ≡ ASKED → deepest (T .lists) (levelFor s (c .size)) ≡ At l →
+      P (outcome (Found l) (onlyCall T t (moved c FOUND l)))
+  pub blocks :
+      c .stage ≡ ASKED → (c .wait ≡ NEVER → ⊥) → (c .wait ≡ TIMED → T .device .clock < c .deadline) →
+      P (outcome Waiting (blocked s T t c))
+  pub again : c .stage ≡ FOUND → P (takeFrom s T t c [])
+  pub takes :
+      (b : ℕ) (bs : List ℕ) → c .stage ≡ FOUND → freeList s (T .lists) (c .level) ≡ b ∷ bs → P (takeFrom s T t c (b ∷ bs))
+  pub splits : c .stage ≡ DIVIDING → c .level < levelFor s (c .size) → P (splitStep s T t c)
+  pub grants : c .stage ≡ DIVIDING → levelFor s (c .size) ≤ c .level → P (grantStep s T t c)
+  pub settles : c .stage ≡ RELEASING → merges s (T .states) (c .level) (c .block) ≡ false → P (settleStep s T t c)
+  pub merges : c .stage ≡ RELEASING → merges s (T .states) (c .level) (c .block) ≡ true → P (mergeStep s T t c)
+
+-- each way in which a step may end: refused, or made by who may make it on sound tables
+pub record EachStep (P : Step → Outcome → Type 0) (s : Shape) (T : State) : Type 0 where
+  pub stays : (x : Step) (r : Refusal) → leaves x r ≡ true → P x (outcome (Refused r) T)
+  pub builds : allowed s ≡ true → P Build (outcome Built (fresh s))
+  pub asks :
+      (t size : ℕ) (ms : ℤ) → Running s T t (callOf (T .calls) t) → callOf (T .calls) t .stage ≡ CLOSED → size ≤ s .«top_size» →
+      P (Ask t size ms) (outcome Opened (onlyCall T t (askedCall (T .device .clock) size (wait ms))))
+  pub goes : (t : ℕ) → Running s T t (callOf (T .calls) t) → EachGoOn (P (GoOn t)) s T t (callOf (T .calls) t)
+  pub gives :
+      (t i : ℕ) → Running s T t (callOf (T .calls) t) → callOf (T .calls) t .stage ≡ CLOSED → idOutside s i ≡ false →
+      stateAt s (T .states) (idLevel i) (idBlock i) ≡ ALLOCATED →
+      getD (T .owners) (place s (idLevel i) (idBlock i)) 0 ≡ t + 1 →
+      P (Give t i) (outcome Opened (given s T t (idLevel i) (idBlock i)))
+  pub switches :
+      (t : ℕ) → t < s .threads → (callOf (T .calls) t .stage ≡ WAITING → ⊥) →
+      P (Switch t) (outcome Switched (onlyDevice T (T .device .clock) (t + 1)))
+  pub ticks : (n : ℕ) → Sound s T → P Tick (outcome (Ticked n) (ticked s T))
+  pub whole : P Whole (outcome answers.Whole T)
+  pub not-whole : P Whole (outcome answers.NotWhole T)
+
+module _ (P : Outcome → Type 0) (s : Shape) (T : State) (t : ℕ) (c : Call) (g : EachGoOn P s T t c) where
+  -- by the two ways of a test, with what it says or without
+  on-either : (b : Bool) (x y : Outcome) → (b ≡ true → P x) → (b ≡ false → P y) → P (cond b x y)
+  on-either true x y f g = f refl
+  on-either false x y f g = g refl
+
+  either-way : (b : Bool) (x y : Outcome) → P x → P y → P (cond b x y)
+  either-way b x y p q = on-either b x y (λ _. p) (λ _. q)
+
+  -- asked: a timed call ends once the clock is past its deadline, and with the clock there it does not wait
+  looks : c .stage ≡ ASKED → P (look s T t c)
+  unfolding look lookAt noRoom
+  looks a = go (ℕ-discrete (c .wait) TIMED) (decLt (c .deadline) (T .device .clock)) (decLt (T .device .clock) (c .deadline))
+    where
+      late : P (outcome (Refused TimedOut) (onlyCall T t closed))
+      late = g .ends TimedOut refl a
+
+      late-or : P (lookAt s T t c (deepest (T .lists) (levelFor s (c .size)))) → P (look s T t c)
+      late-or p = let q = late in search either-way
+
+      due :
+          (r : Room) → deepest (T .lists) (levelFor s (c .size)) ≡ r → c .wait ≡ TIMED → c .deadline ≡ T .device .clock →
+          P (lookAt s T t c r)
+      due (At l) q w d = g .finds l a q
+      due Nowhere q w d = rw (ne-eqb (c .wait) NEVER (omega arith), eq-eqb (c .wait) TIMED w, eq-eqb _ _ d) late
+
+      other :
+          (r : Room) → deepest (T .lists) (levelFor s (c .size)) ≡ r → (c .wait ≡ TIMED → T .device .clock < c .deadline) →
+          P (lookAt s T t c r)
+      other (At l) q k = g .finds l a q
+      other Nowhere q k =
+          on-either (eqb (c .wait) NEVER) _ _ (λ _. g .ends NoRoom refl a) (λ n.
+          either-way (eqb (c .wait) TIMED && eqb (c .deadline) (T .device .clock)) _ _ late (g .blocks a (eqb-false _ _ n) k))
+
+      go : Dec (c .wait ≡ TIMED) → Dec (c .deadline < T .device .clock) → Dec (T .device .clock < c .deadline) → P (look s T t c)
+      go (yes w) (yes l) h = simp (eq-eqb (c .wait) TIMED w, lt-ltb _ _ l) late
+      go (yes w) (no l) (no h) = late-or (due _ refl w (omega arith))
+      go (yes w) (no l) (yes h) = late-or (other _ refl (λ _. h))
+      go (no w) l h = late-or (other _ refl (λ q. absurd (w q)))
+
+  -- found: by the level's list
+  takes : c .stage ≡ FOUND → P (takeStep s T t c)
+  unfolding takeStep
+  takes f = at (freeList s (T .lists) (c .level)) refl
+    where
+      at : (bs : List ℕ) → freeList s (T .lists) (c .level) ≡ bs → P (takeFrom s T t c bs)
+      at [] q = g .again f
+      at (b ∷ bs) q = g .takes b bs f q
+
+  goes-on : Running s T t c → (c .stage ≡ CLOSED → ⊥) → P (goOnStep s T t c)
+  unfolding goOnStep divideStep releaseStep
+  goes-on w n =
+      on-either _ _ _ (λ a. looks (eqb-true _ _ a)) (λ a.
+      on-either _ _ _ (λ f. takes (eqb-true _ _ f)) (λ f.
+      on-either _ _ _
+      (λ d. on-either _ _ _ (λ h. g .splits (eqb-true _ _ d) (ltb-true _ _ h)) (λ h. g .grants (eqb-true _ _ d) (ltb-false _ _ h)))
+      (λ d. on-either _ _ _ (g .merges (releasing (eqb-false _ _ a) (eqb-false _ _ f) (eqb-false _ _ d)))
+      (g .settles (releasing (eqb-false _ _ a) (eqb-false _ _ f) (eqb-false _ _ d))))))
+    where
+      releasing : (c .stage ≡ ASKED → ⊥) → (c .stage ≡ FOUND → ⊥) → (c .stage ≡ DIVIDING → ⊥) → c .stage ≡ RELEASING
+      releasing a f d = left-over c (own-facts w .fields) n a f d (ready w)
+
+-- past each refusal that leaves all as it was
+module _ (P : Step → Outcome → Type 0) (s : Shape) (T : State) (e : EachStep P s T) (x : Step) where
+  past : (b : Bool) (r : Refusal) (rest : Outcome) → leaves x r ≡ true → (b ≡ false → P x rest) → P x (refuse b r T rest)
+  past true r rest k f = e .stays x r k
+  past false r rest k f = f refl
+
+  past-checked :
+      (rest : Outcome) → leaves x ShapeNotAllowed ≡ true → leaves x WrongLength ≡ true → leaves x NotValid ≡ true →
+      (Sound s T → P x rest) → P x (checked s T rest)
+  past-checked rest i j k f =
+      past _ _ _ i (λ a.
+      past _ _ _ j (λ l.
+      past _ _ _ k (λ v.
+      f (record { shape = not-false _ a; lengths = not-false _ l; valid = not-false _ v }))))
+
+  past-running :
+      (t : ℕ) (rest : Outcome) → leaves x ShapeNotAllowed ≡ true → leaves x WrongLength ≡ true → leaves x NotValid ≡ true →
+      leaves x NoThread ≡ true → leaves x NotRunning ≡ true → (Running s T t (callOf (T .calls) t) → P x rest) →
+      P x (checked s T (byRunning s T t rest))
+  past-running t rest i j k m n f =
+      past-checked _ i j k (λ v.
+      past _ _ _ m (λ h.
+      past _ _ _ n (λ r.
+      f (record { sound = v; thread = ltb-true _ _ (not-false _ h); running = eqb-true _ _ (not-false _ r); own = refl }))))
+
+module _ (P : Step → Outcome → Type 0) (s : Shape) (T : State) (e : EachStep P s T) where
+  -- the question changes nothing
+  answers-whole :
+      (a l v w : Bool) →
+      P Whole
+      (outcome
+      (cond a (Refused ShapeNotAllowed) (cond l (Refused WrongLength) (cond v (Refused NotValid) (cond w answers.Whole answers.NotWhole))))
+      T)
+  unfolding listedFor
+  answers-whole true l v w = e .stays Whole ShapeNotAllowed refl
+  answers-whole false true v w = e .stays Whole WrongLength refl
+  answers-whole false false true w = e .stays Whole NotValid refl
+  answers-whole false false false true = e .whole
+  answers-whole false false false false = e .not-whole
+
+  pub each-step : (x : Step) → P x (stepOn s T x)
+  unfolding listedFor stepOn build ask askStep goOn give giveStep giveBlock switch switchStep tick tickStep whole
+  each-step Build = past P s T e Build _ _ _ refl (λ a. past P s T e Build (not (lengths s T)) _ _ refl (λ _. e .builds (not-false _ a)))
+  each-step (Ask t size ms) =
+      past-running P s T e (Ask t size ms) t _ refl refl refl refl refl (λ g.
+      past P s T e (Ask t size ms) _ _ _ refl (λ o.
+      past P s T e (Ask t size ms) _ _ _ refl (λ h.
+      past P s T e (Ask t size ms) (isOutside (wait ms)) _ _ refl (λ _.
+      e .asks t size ms g (eqb-true _ _ (not-false _ o)) (ltb-false _ _ h)))))
+  each-step (GoOn t) =
+      past-running P s T e (GoOn t) t _ refl refl refl refl refl (λ g.
+      past P s T e (GoOn t) _ _ _ refl (λ o.
+      goes-on (P (GoOn t)) s T t (callOf (T .calls) t) (e .goes t g) g (eqb-false _ _ o)))
+  each-step (Give t i) =
+      past-running P s T e (Give t i) t _ refl refl refl refl refl (λ g.
+      past P s T e (Give t i) _ _ _ refl (λ o.
+      past P s T e (Give t i) _ _ _ refl (λ p.
+      past P s T e (Give t i) _ _ _ refl (λ a.
+      past P s T e (Give t i) _ _ _ refl (λ w.
+      e .gives t i g (eqb-true _ _ (not-false _ o)) p (eqb-true _ _ (not-false _ a)) (eqb-true _ _ (not-false _ w)))))))
+  each-step (Switch t) =
+      past-checked P s T e (Switch t) _ refl refl refl (λ _.
+      past P s T e (Switch t) _ _ _ refl (λ h.
+      past P s T e (Switch t) _ _ _ refl (λ w. e .switches t (ltb-true _ _ (not-false _ h)) (eqb-false _ _ w))))
+  each-step Tick =
+      past-checked P s T e Tick _ refl refl refl (λ v.
+      past P s T e Tick (eqb (T .device .clock) CLOCK-END) _ _ refl (λ _. e .ticks _ v))
+  each-step Whole = answers-whole (not (allowed s)) (not (lengths s T)) (not (valid s T)) (isWhole s T)
