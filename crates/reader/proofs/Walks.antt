@@ -1,9 +1,9 @@
 -- Walks of functions that take no `&mut`: all of such a proof but the lines of the walk.
---     Promise, Walk    a function's contract as a triple; what a walk of its code shows
---     proved           the function meets its contract, from the walk
---     framed-calls     what each step over a call asks of the table of calls
---     asks             the code calls another such function: the tokens come back with the result, and what is said of it is learned
---     ends             the walk has the result and the tokens, and shows what the contract says of the result
+--     Spelled, Told    how the machine values of the parameters are spelled, and that the types tell it
+--     Promise, Walk    a function's contract as a triple, and what a walk of its code shows
+--     proved           the function meets its contract, from the walk.        framed-calls     what a call asks of the table of calls
+--     asks             a call of another such function: the tokens come back with the result, and what is said of it is learned.        returned     the half of it after the call
+--     ends             the end: the result and the tokens are had, and what the clause says is shown.        hands-back   the same where that is had too
 --     copied, leave    a local is copied; a local is freed, whatever it holds
 -- Assumes `Given`.
 use mathlib.Core.Path.{_≡_, subst}
@@ -23,7 +23,7 @@ use ghost.Atoms.{Atoms, sem}
 use contract.Lifetimes.{Lfts, Shares, AllOutlive}
 use contract.Monad.{Fun, fact}
 use contract.Running.{GhostRules, Running, givenOf, tables}
-use types.Kit.{Given, Item, Go, Goal, Post, Seq, Step, step, prop, runs, lands, frees, ‵, raw, _⊛_, some, later, _$_, _∵_, !, qed, by, move, keep, use0, use1, split, join, pick, frame, show, assume, await, updating, now as at-once, ⋆, mean, nth, del, pull, push}
+use types.Kit.{Given, Item, Go, Goal, Post, Soaks, Seq, Step, step, prop, runs, lands, frees, ‵, raw, _⊛_, some, later, _$_, _∵_, !, qed, by, move, keep, use0, use1, split, join, pick, frame, show, assume, await, updating, now as at-once, done, ⋆, mean, nth, del, pull, push}
 use types.Run.{Opd, Opds, look, stop, from, load, free1}
 use denote.RattleType.{RattleType, owns, flat}
 use denote.Laws.{Is, shows, Are, Ises, Spells, Tellss, valss}
@@ -32,7 +32,7 @@ use denote.Signature.{Signature, typeAt, typesAt}
 use denote.Steps.{said, heard, peeks}
 use denote.Triple.Bound.{Bound}
 use denote.Triple.Call.{calls-from}
-use denote.Triple.Clauses.{Clauses, Ended, Lasts, AtExit, atExit, lasts, ensured, closing}
+use denote.Triple.Clauses.{Clauses, Ended, Lasts, atExit, lasts, ensured, closing}
 use denote.Triple.Entry.{Args, Res, Vals, alive}
 use denote.Triple.Spec.{Back, tripleOf}
 use denote.Triple.Statement.{Contract, Triple}
@@ -83,10 +83,10 @@ module _ {M : Type 1} (𝓤 : URA M) (H : Heap 𝓤) (A : Atoms 𝓤) (T : Ended
       (comm∗ 𝓤 (wand 𝓤 R (Q (y .0 .4))) R))
       (apply∗ 𝓤 R (Q (y .0 .4)))
 
-  -- a function that takes no `&mut` says what its clause says, and no last value
-  module _ (y : Promise .Ghost) (φ : Res (T .signature) (y .0 .0) → Type 0) (told : (r : Res (T .signature) (y .0 .0)) (e : AtExit T (y .0 .0)) → ent 𝓤 (c (y .0 .0) (y .0 .3) .ensures (y .1) r e) (fact 𝓤 (φ r))) where
-    said-of : (r : Res (T .signature) (y .0 .0)) → ent 𝓤 (ensured 𝓤 H A T c (y .0 .0) (y .0 .3) (y .1) r) (fact 𝓤 (φ r))
-    said-of r = exE 𝓤 _ (λ ws. via 𝓤 _ (snd∗ 𝓤 (sem 𝓤 H A (lasts T (y .0 .0) (y .0 .3) ws)) (c (y .0 .0) (y .0 .3) .ensures (y .1) r (atExit T (y .0 .0) (y .0 .3) ws))) (told r (atExit T (y .0 .0) (y .0 .3) ws)))
+  -- of what a function says, Q
+  module _ (y : Promise .Ghost) (Q : Res (T .signature) (y .0 .0) → SProp 𝓤) (says : (r : Res (T .signature) (y .0 .0)) (ws : Lasts T (y .0 .0) (y .0 .3)) → ent 𝓤 (c (y .0 .0) (y .0 .3) .ensures (y .1) r (atExit T (y .0 .0) (y .0 .3) ws)) (Q r)) where
+    said-of : (r : Res (T .signature) (y .0 .0)) → ent 𝓤 (ensured 𝓤 H A T c (y .0 .0) (y .0 .3) (y .1) r) (Q r)
+    said-of r = exE 𝓤 _ (λ ws. via 𝓤 _ (snd∗ 𝓤 (sem 𝓤 H A (lasts T (y .0 .0) (y .0 .3) ws)) (c (y .0 .0) (y .0 .3) .ensures (y .1) r (atExit T (y .0 .0) (y .0 .3) ws))) (says r ws))
 
 module _ {M : Type 1} (𝓤 : URA M) (H : Heap 𝓤) (𝓜 : Model 𝓤 H) (𝓖 : GhostRules 𝓤 H) (𝓡 : Running 𝓤 H 𝓜) (γ : Table) where
   pub framed-calls : FmC 𝓤 H (givenOf 𝓤 H 𝓜 𝓖 .laws) (tables 𝓤 H 𝓜 𝓡 γ .C)
@@ -100,28 +100,39 @@ module _ {M : Type 1} (𝓤 : URA M) (H : Heap 𝓤) (𝓜 : Model 𝓤 H) (𝓖
       (walks-meet 𝓤 H (𝓖 .A) T c (givenOf 𝓤 H 𝓜 𝓖) (WpFn 𝓤 H (tables 𝓤 H 𝓜 𝓡 γ .C) (tables 𝓤 H 𝓜 𝓡 γ .Λ) e) sp tl walk)
 
 module _ {M : Type 1} {𝓤 : URA M} {H : Heap 𝓤} {A : Atoms 𝓤} {K : Type 0} {W : Given 𝓤 H A} {Γ : List (Item 𝓤)} where
-  -- a call: the tokens and what the callee's parameters own go in front, and what it says of its result is φ
+  -- a call has returned: of what the callee says, Q is had, with the result and the tokens
+  pub returned : K → {G : Goal 𝓤 H} → Soaks G → (T : Ended) (c : Clauses 𝓤 T) (y : Promise 𝓤 H A T c .Ghost) (Q : Res (T .signature) (y .0 .0) → SProp 𝓤)
+      → ((r : Res (T .signature) (y .0 .0)) (ws : Lasts T (y .0 .0) (y .0 .3)) → ent 𝓤 (c (y .0 .0) (y .0 .3) .ensures (y .1) r (atExit T (y .0 .0) (y .0 .3) ws)) (Q r)) → {u : Val}
+      → ((r : Res (T .signature) (y .0 .0)) → Is (typeAt (T .signature .result) (y .0 .0)) r (u ∷ []) → Seq K W (‵ (typeAt (T .signature .result) (y .0 .0) .own r (u ∷ [])) ∷ raw (Tokens 𝓤 H A (T .signature) (y .0)) ∷ raw (Q r) ∷ Γ) G)
+      → Seq K W (raw (Promise 𝓤 H A T c .post y u) ∷ Γ) G
+  returned t z T c y Q says {u} k =
+      let R : RattleType = typeAt (T .signature .result) (y .0 .0) in
+      use1 W (later (some (λ (r : R .Denot). (raw (Tokens 𝓤 H A (T .signature) (y .0)) ⊛ ‵ (R .own r (u ∷ []))) ⊛ raw (ensured 𝓤 H A T c (y .0 .0) (y .0 .3) (y .1) r)))) (id⊢ 𝓤 _) $ await t z $ pick t (λ r.
+      split t $ move t (1 ∷ []) $ use1 W (raw (Q r)) (said-of 𝓤 H A T c y Q says r) $ move t (1 ∷ []) $ split t $ move t (1 ∷ []) $ peeks t R (Is R) (shows 𝓤 H A R) r (u ∷ []) (λ is. k r is))
+
+  -- a call: the tokens and what the callee's parameters own are in front, and what it says of its result is the fact φ
   pub asks : K → {C : Calls 𝓤 H} → FmC 𝓤 H (W .laws) C → (T : Ended) (c : Clauses 𝓤 T) {f : Name} → Triple 𝓤 (C f) (Promise 𝓤 H A T c) → (y : Promise 𝓤 H A T c .Ghost) → ent 𝓤 (emp 𝓤) (c (y .0 .0) (y .0 .3) .requires (y .1))
-      → (φ : Res (T .signature) (y .0 .0) → Type 0) → ((r : Res (T .signature) (y .0 .0)) (e : AtExit T (y .0 .0)) → ent 𝓤 (c (y .0 .0) (y .0 .3) .ensures (y .1) r e) (fact 𝓤 (φ r)))
+      → (φ : Res (T .signature) (y .0 .0) → Type 0) → ((r : Res (T .signature) (y .0 .0)) (ws : Lasts T (y .0 .0) (y .0 .3)) → ent 𝓤 (c (y .0 .0) (y .0 .3) .ensures (y .1) r (atExit T (y .0 .0) (y .0 .3) ws)) (fact 𝓤 (φ r)))
       → {Λ : Loops 𝓤 H} {E : Env 𝓤 H} {q : Post 𝓤 H} {xs : List Operand} {d : Place} {rest : Body}
       → Opds K W ((raw (Tokens 𝓤 H A (T .signature) (y .0)) ⊛ ‵ (Owned 𝓤 H A (T .signature) (y .0))) ∷ Γ) E xs (Promise 𝓤 H A T c .args y)
       → ((u : Val) (r : Res (T .signature) (y .0 .0)) → φ r → Is (typeAt (T .signature .result) (y .0 .0)) r (u ∷ []) → Seq K W (‵ (typeAt (T .signature .result) (y .0 .0) .own r (u ∷ [])) ∷ raw (Tokens 𝓤 H A (T .signature) (y .0)) ∷ Γ) (lands C Λ E d u rest q))
       → Seq K W ((raw (Tokens 𝓤 H A (T .signature) (y .0)) ⊛ ‵ (Owned 𝓤 H A (T .signature) (y .0))) ∷ Γ) (runs C Λ E (seq (call f xs d) rest) q)
-  asks t fm T c known y required φ told os k =
-      let R : RattleType = typeAt (T .signature .result) (y .0 .0) in
-      let tokens : Item 𝓤 = raw (Tokens 𝓤 H A (T .signature) (y .0)) in
-      calls-from t fm (tokens ⊛ ‵ (Owned 𝓤 H A (T .signature) (y .0))) (Promise 𝓤 H A T c .args y) (Promise 𝓤 H A T c .post y)
-      (via 𝓤 (Promise 𝓤 H A T c .pre y) (qed W ((tokens ⊛ ‵ (Owned 𝓤 H A (T .signature) (y .0))) ∷ []) ∵ frame ! $ by ! required) (known y)) os (λ u.
-      use1 W (later (some (λ (r : R .Denot). (tokens ⊛ ‵ (R .own r (u ∷ []))) ⊛ raw (ensured 𝓤 H A T c (y .0 .0) (y .0 .3) (y .1) r)))) (id⊢ 𝓤 _) $ await t tt $ pick t (λ r.
-      split t $ move t (1 ∷ []) $ use1 W (raw (fact 𝓤 (φ r))) (said-of 𝓤 H A T c y φ told r) $ heard t (φ r) (λ e. split t $ move t (1 ∷ []) $ peeks t R (Is R) (shows 𝓤 H A R) r (u ∷ []) (λ is. k u r e is))))
+  asks t fm T c known y required φ says os k =
+      let given : Item 𝓤 = raw (Tokens 𝓤 H A (T .signature) (y .0)) ⊛ ‵ (Owned 𝓤 H A (T .signature) (y .0)) in
+      calls-from t fm given (Promise 𝓤 H A T c .args y) (Promise 𝓤 H A T c .post y) (via 𝓤 (Promise 𝓤 H A T c .pre y) (qed W (given ∷ []) ∵ frame ! $ by ! required) (known y)) os
+      (λ u. returned t tt T c y (λ r. fact 𝓤 (φ r)) says (λ r is. move t (2 ∷ []) $ heard t (φ r) (λ e. k u r e is)))
 
-  -- the end: the tokens and the result are handed back, what else is had is let go, and of no parameter a last value is said
+  -- the end: the result, the tokens and what the clause says are handed back, and what else is had is let go. No parameter has a last value to be said
+  pub hands-back : K → (T : Ended) (c : Clauses 𝓤 T) (y : Promise 𝓤 H A T c .Ghost) {u : Val} (r : Res (T .signature) (y .0 .0)) (ws : Lasts T (y .0 .0) (y .0 .3)) → Pure (lasts T (y .0 .0) (y .0 .3) ws) → shadow (lasts T (y .0 .0) (y .0 .3) ws)
+      → Seq K W (‵ (typeAt (T .signature .result) (y .0 .0) .own r (u ∷ [])) ∷ raw (Tokens 𝓤 H A (T .signature) (y .0)) ∷ raw (c (y .0 .0) (y .0 .3) .ensures (y .1) r (atExit T (y .0 .0) (y .0 .3) ws)) ∷ Γ) (prop (Promise 𝓤 H A T c .post y u))
+  hands-back t T c y {u} r ws quiet is =
+      keep t (1 ∷ 0 ∷ 2 ∷ []) $ updating t $ at-once t $ show t (λ (r′ : Res (T .signature) (y .0 .0)). sep 𝓤 (Back 𝓤 H A (T .signature) (y .0) u r′) (ensured 𝓤 H A T c (y .0 .0) (y .0 .3) (y .1) r′)) r $ join t $ frame t $
+      show t (λ (us : Lasts T (y .0 .0) (y .0 .3)). sep 𝓤 (sem 𝓤 H A (lasts T (y .0 .0) (y .0 .3) us)) (c (y .0 .0) (y .0 .3) .ensures (y .1) r (atExit T (y .0 .0) (y .0 .3) us))) ws $
+      use0 W (‵ (lasts T (y .0 .0) (y .0 .3) ws)) (makes-shadow 𝓤 H A (lasts T (y .0 .0) (y .0 .3) ws) quiet is) $ done t
+
   pub ends : K → (T : Ended) (c : Clauses 𝓤 T) (y : Promise 𝓤 H A T c .Ghost) {u : Val} (r : Res (T .signature) (y .0 .0)) (ws : Lasts T (y .0 .0) (y .0 .3)) → Pure (lasts T (y .0 .0) (y .0 .3) ws) → shadow (lasts T (y .0 .0) (y .0 .3) ws)
       → ent 𝓤 (emp 𝓤) (c (y .0 .0) (y .0 .3) .ensures (y .1) r (atExit T (y .0 .0) (y .0 .3) ws)) → Seq K W (‵ (typeAt (T .signature .result) (y .0 .0) .own r (u ∷ [])) ∷ raw (Tokens 𝓤 H A (T .signature) (y .0)) ∷ Γ) (prop (Promise 𝓤 H A T c .post y u))
-  ends t T c y {u} r ws quiet is told =
-      keep t (1 ∷ 0 ∷ []) $ updating t $ at-once t $ show t (λ (r′ : Res (T .signature) (y .0 .0)). sep 𝓤 (Back 𝓤 H A (T .signature) (y .0) u r′) (ensured 𝓤 H A T c (y .0 .0) (y .0 .3) (y .1) r′)) r $ join t $ frame t $
-      show t (λ (us : Lasts T (y .0 .0) (y .0 .3)). sep 𝓤 (sem 𝓤 H A (lasts T (y .0 .0) (y .0 .3) us)) (c (y .0 .0) (y .0 .3) .ensures (y .1) r (atExit T (y .0 .0) (y .0 .3) us))) ws $
-      use0 W (‵ (lasts T (y .0 .0) (y .0 .3) ws)) (makes-shadow 𝓤 H A (lasts T (y .0 .0) (y .0 .3) ws) quiet is) $ frame t $ by t told
+  ends t T c y r ws quiet is told = use0 W (raw (c (y .0 .0) (y .0 .3) .ensures (y .1) r (atExit T (y .0 .0) (y .0 .3) ws))) told $ move t (1 ∷ 2 ∷ 0 ∷ []) $ hands-back t T c y r ws quiet is
 
   -- a local is copied
   pub copied : K → (i : ℕ) {q : Share} {E : Env 𝓤 H} {k : ℕ} {v : Val} → nth 𝓤 H A i Γ ≡ ‵ (fat q (spotOf 𝓤 H E k .0) (spotOf 𝓤 H E k .1) zero v) → Opd K W Γ E (copy (place k [])) v

@@ -1,9 +1,10 @@
 // The script reader: the script, and the reader's place in it.
 use rules::script::Read;
+use script::fields;
+use script::numbers::number_at;
 ghost use mathlib.Core.Path.{_≡_};
-ghost use Prim.Native.Nat.{_-_, _≤_};
-ghost use lib.ListN.{length, take, drop};
-ghost use Rattle.rules.specs.Script.{readAt};
+ghost use mathlib.Core.Bool.{true};
+ghost use Rattle.rules.specs.Script.{uncut, valueAt, readAt};
 
 // A script that is lent, and a place in it.
 pub struct Reader<'a> {
@@ -35,12 +36,22 @@ pub fn next<'a>(r: Reader<'a>) -> Read
     script::read_at(r.script, r.at)
 }
 
-// The value of a field: the part of the script in which it stands.
-pub fn value<'a>(r: Reader<'a>, start: usize, end: usize) -> &'a [u8]
-    requires { ⌜ (start ≤ end) × (end ≤ length (now (r .script))) ⌝ }
-    ensures { λ v. ⌜ now v ≡ take (end - start) (drop start (now (r .entry .script))) ⌝ }
+// The value of the field at an offset: the part of the script in which it stands.
+pub fn value_at<'a>(script: &'a [u8], at: usize) -> &'a [u8]
+    requires { ⌜ uncut (now script) at ≡ true ⌝ }
+    ensures { λ v. ⌜ now v ≡ valueAt (now (script .entry)) at ⌝ }
 {
-    script::fields::value(r.script, start, end)
+    let start = at + 3;
+    let end = start + number_at(script, at + 1, 2);
+    fields::value(script, start, end)
+}
+
+// The value of the field at the reader's place.
+pub fn value<'a>(r: Reader<'a>) -> &'a [u8]
+    requires { ⌜ uncut (now (r .script)) (r .at) ≡ true ⌝ }
+    ensures { λ v. ⌜ now v ≡ valueAt (now (r .entry .script)) (r .entry .at) ⌝ }
+{
+    value_at(r.script, r.at)
 }
 
 // What a reader finds at a place of a script. Its parameters are plain, so whoever calls it needs no reader.
