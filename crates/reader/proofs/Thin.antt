@@ -14,7 +14,7 @@ use prog.Wp.{Heap, Calls, Loops, WpFn}
 use sound.WpLaws.{FmC}
 use ghost.Atoms.{Atoms}
 use contract.Lifetimes.{Lfts}
-use types.Kit.{Given, raw, _$_, !, move, use2, join, fsplit}
+use types.Kit.{Given, raw, _$_, !, move, drop, use2, join, fsplit}
 use types.Part.{whole, sub, look-in}
 use types.Run.{look, init, stop, fld, from, load, of-opd, and-then, no-more, assigns, land, returns, enter, alloc1, alloc0, params1, pass1, pass0, free0}
 use denote.Laws.{Is}
@@ -76,8 +76,8 @@ module _ {M : Type 1} (𝓤 : URA M) (H : Heap 𝓤) (A : Atoms 𝓤) (W : Given
       assigns ! (of-opd ! (load ! (from ! (fld ! refl (stop !))) (look-in ! 4 (sub ! 0 refl (whole !))))) (from ! (stop !)) (init ! 2 refl (tt, wt .1 .0)) $
       assigns ! (of-opd ! (load ! (from ! (fld ! refl (stop !))) (look-in ! 4 (sub ! 1 refl (whole !))))) (from ! (stop !)) (init ! 0 refl (tt, wt .1 .1 .0)) $
       -- [_3; …; _2; …; _1; …; room for _0; …; the token; what the reader owns; what is required]
-      move ! (9 ∷ []) $ fsplit ! $ opened ! (outer κs) d $ move ! (10 ∷ 0 ∷ []) $ join ! $ move ! (0 ∷ 10 ∷ []) $ use2 W (raw (Promise 𝓤 H A (OfPlace R) b .pre y)) (monoR 𝓤 (onEntry 𝓤 H A (OfPlace R .signature) (y .0 .0) (y .0 .1) (y .0 .3) (y .0 .4)) (requires κs d g)) $
-      calls-at ! fm (Promise 𝓤 H A (OfPlace R) b) known y (and-then ! (copied ! 4 refl) (and-then ! (copied ! 2 refl) (no-more !))) (λ u. returned ! tt (OfPlace R) b y (λ r. c κs a .ensures g r a) (λ r ws. ensures κs d g r) (λ r is.
-      -- [the result; the token; what is ensured; nothing; _3; …; _2; …; _1; …; room for _0; …]
-      land ! (from ! (stop !)) (init ! 10 refl (result-typed κs r u is)) $ returns ! (look ! 10 refl) $ leave ! 10 refl refl $ leave ! 8 refl refl $ leave ! 6 refl refl $ leave ! 4 refl refl $ free0 ! $
-      hands-back ! (OfReader R) c (called 𝓤 H A (OfReader R) c (spelled R) κs qs bounds a g) r (tt, tt) (tt, tt) (tt, tt)))))))
+      move ! (9 ∷ []) $ fsplit ! $ move ! (1 ∷ []) $ drop ! $ opened ! (outer κs) d $ move ! (9 ∷ 0 ∷ []) $ join ! $ move ! (0 ∷ 9 ∷ []) $ use2 W (raw (Promise 𝓤 H A (OfPlace R) b .pre y)) (monoR 𝓤 (onEntry 𝓤 H A (OfPlace R .signature) (y .0 .0) (y .0 .1) (y .0 .3) (y .0 .4)) (requires κs d g)) $
+      calls-at ! fm (Promise 𝓤 H A (OfPlace R) b) known y (and-then ! (copied ! 3 refl) (and-then ! (copied ! 1 refl) (no-more !))) (λ u. returned ! tt (OfPlace R) b y (λ r. c κs a .ensures g r a) (λ r ws. ensures κs d g r) (λ r is.
+      -- [the result; the token; what is ensured; _3; …; _2; …; _1; …; room for _0; …]
+      land ! (from ! (stop !)) (init ! 9 refl (result-typed κs r u is)) $ returns ! (look ! 9 refl) $ leave ! 9 refl refl $ leave ! 7 refl refl $ leave ! 5 refl refl $ leave ! 3 refl refl $ free0 ! $
+      hands-back {Γ = []} ! (OfReader R) c (called 𝓤 H A (OfReader R) c (spelled R) κs qs bounds a g) r (tt, tt) (tt, tt) (tt, tt)))))))

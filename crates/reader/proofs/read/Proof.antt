@@ -15,7 +15,7 @@ use sound.WpLaws.{FmC}
 use ghost.Atoms.{Atoms}
 use contract.Monad.{Fun, factI}
 use contract.Running.{givenOf, tables}
-use types.Kit.{Given, _$_, !, move, join, fsplit, fjoin}
+use types.Kit.{Given, _$_, !, move, drop, join, fsplit, fjoin}
 use types.Run.{look, init, stop, from, and-then, no-more, land, returns, enter, alloc1, alloc0, params1, pass1, pass0, free0}
 use denote.Plain.{uint-vals, uint-tells}
 use denote.Builtin.{u8}
@@ -65,7 +65,7 @@ module _ {M : Type 1} (𝓤 : URA M) (H : Heap 𝓤) (A : Atoms 𝓤) (W : Given
       enter ! C Λ code.function (sliceVal (s .ptr) (length (s .now)) ∷ vint w64 n ∷ []) _ $ alloc1 ! (λ l₀. alloc1 ! (λ l₁. alloc1 ! (λ l₂. alloc1 ! (λ l₃. alloc1 ! (λ l₄. alloc0 ! $ params1 ! $
       pass1 ! (init ! 6 refl (shr-slice-lawful 𝓤 H A W (named 0) (κs .0) u8 .typed s _ (are .0) .0)) $ pass1 ! (init ! 4 refl (tt, record { fits = are .1 .0 .1 })) $ pass0 ! $
       -- [room for _4; …; room for _3; …; _2; …; _1; …; room for _0; …; the token; what the script and the place own]
-      move ! (11 ∷ []) $ fsplit ! $ nothing ! $ move ! (1 ∷ 0 ∷ []) $ fjoin ! $ move ! (12 ∷ 0 ∷ []) $ join ! $
+      move ! (12 ∷ []) $ drop ! $ move ! (11 ∷ []) $ fsplit ! $ nothing ! $ move ! (1 ∷ 0 ∷ []) $ fjoin ! $ move ! (12 ∷ 0 ∷ []) $ join ! $
       asks ! fm new.ended (new.clauses 𝓤 H A mem run) known-new ((κs, qs, tt, (s, tt), (slice-vals s, tt)), tt) (id⊢ 𝓤 _)
       (λ d. (d .script ≡ s) × (d .at ≡ 0)) (λ d e. id⊢ 𝓤 _) (and-then ! (copied ! 8 refl) (no-more !)) (λ u d e is.
       land ! (from ! (stop !)) (init ! 3 refl (typed 𝓤 H A W (inner κs) d u is)) $
@@ -81,7 +81,7 @@ module _ {M : Type 1} (𝓤 : URA M) (H : Heap 𝓤) (A : Atoms 𝓤) (W : Given
       -- [the result; the token; _4; …; _3; …; _2; …; _1; …; room for _0; …]
       land ! (from ! (stop !)) (init ! 10 refl (EL.lawful S.the-type S′.the-laws 𝓤 H A W tt .typed r _ is″ .0)) $
       returns ! (look ! 10 refl) $ leave ! 10 refl refl $ leave ! 8 refl refl $ leave ! 6 refl refl $ leave ! 4 refl refl $ leave ! 2 refl refl $ free0 ! $
-      ends ! read.ended (read.clauses 𝓤 H A mem run) (called 𝓤 H A read.ended (read.clauses 𝓤 H A mem run) spelled κs qs bounds a g) r (tt, (tt, tt)) (tt, (tt, tt)) (tt, (tt, tt)) (factI 𝓤 _ (emp 𝓤) (there s n d d′ r e e′ e″))))))))))
+      ends {Γ = []} ! read.ended (read.clauses 𝓤 H A mem run) (called 𝓤 H A read.ended (read.clauses 𝓤 H A mem run) spelled κs qs bounds a g) r (tt, (tt, tt)) (tt, (tt, tt)) (tt, (tt, tt)) (factI 𝓤 _ (emp 𝓤) (there s n d d′ r e e′ e″))))))))))
     where
       there : (s : RefT (List ℕ)) (n : ℕ) (d d′ : Reader) (r : S.the-row .Denot) → (d .script ≡ s) × (d .at ≡ 0) → (d′ .script ≡ d .script) × (d′ .at ≡ n) → r ≡ readAt (now (d′ .script)) (d′ .at) → r ≡ readAt (now s) n
       there s n d d′ r e e′ e″ = cc
