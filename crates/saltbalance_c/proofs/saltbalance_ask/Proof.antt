@@ -1,0 +1,24 @@
+-- `saltbalance_c::saltbalance_ask` meets its contract: what ask answers, in numbers. The wait is read back from its bits.
+-- Assumes nothing.
+use Rattle.saltbalance_c.proofs.Tells.{tells}
+use mathlib.Core.Path.{_∙_}
+use mir.Syntax.{w32}
+use mir.ValLaws.{toZ-ofZ}
+use borrow.Author.Needs.{needs}
+use Rattle.saltbalance_c.proofs.saltbalance_ask.Statement.{statement}
+use Rattle.saltbalance_c.proofs.saltbalance_ask.Tie as tie
+
+ask-requires : tie.Need-ask-requires
+ask-requires c κs = search needs
+
+say-requires : tie.Need-say-requires
+say-requires c κs = search needs
+
+same-length : tie.Need-same-length
+same-length c = search needs
+
+returns : tie.Need-returns
+returns c = tells (c .say .ensures) (c .before .before .before .ask .ensures) ∙ cc (toZ-ofZ w32 (c .before .before .before .before .before .before .before .before .before .before .args .wait) (c .before .before .before .before .before .before .before .before .before .before .fits .wait))
+
+pub saltbalance-ask-spec : {M : Type 1} → statement M
+saltbalance-ask-spec = tie.close (tie.spec ask-requires say-requires same-length returns)
