@@ -1,7 +1,7 @@
 -- `saltbalance_c::saltbalance_give_back` meets its contract: what give back answers, in numbers.
 -- Assumes nothing.
-use Rattle.saltbalance_c.proofs.Tells.{tells}
 use borrow.Author.Needs.{needs}
+use Rattle.saltbalance_c.proofs.Tells.{tells}
 use Rattle.saltbalance_c.proofs.saltbalance_give_back.Statement.{statement}
 use Rattle.saltbalance_c.proofs.saltbalance_give_back.Tie as tie
 

@@ -1,7 +1,7 @@
 -- `saltbalance_c::saltbalance_map` meets its contract: what map answers, in numbers.
 -- Assumes nothing.
-use Rattle.saltbalance_c.proofs.Tells.{tells-row}
 use borrow.Author.Needs.{needs}
+use Rattle.saltbalance_c.proofs.Tells.{tells-row}
 use Rattle.saltbalance_c.proofs.saltbalance_map.Statement.{statement}
 use Rattle.saltbalance_c.proofs.saltbalance_map.Tie as tie
 
