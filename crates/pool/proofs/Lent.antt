@@ -1,8 +1,7 @@
 -- Calls that lend the record, `&mut Device`, over a core that has it by value and hands it back beside the answer. The walk of such a call's code shows `Thin`; `meets` takes a contract of the core to the call's.
---     Thin         the code reads the record, calls the core with it and with the other values as they were passed, stores the record that came back, and ends with the answer as `after` says
+--     Thin         the code reads the record, calls the core with it and with the other values as they were passed, stores the record that came back, and returns the answer
 --     lending      the signature of such a call: the record at the first lifetime, and the other parameters
 --     meets        what the core promises of the answer, the record and the other last values, the call promises with the record at exit
---     answered     the result is the answer itself
 -- Assumes `Given`.
 use Prim.Native.Nat.{ℕ, suc}
 use mathlib.Core.List.{List, [], _∷_}
@@ -22,7 +21,7 @@ use denote.Builtin.{RefMutOf}
 use denote.Exit.{yes}
 use denote.Laws.{Is, shows, Are, Ises, Spells, Tellss, valss}
 use denote.Memory.{mem, cellAt}
-use denote.RattleType.{RattleType, Denots, Valss, flat, owns}
+use denote.RattleType.{Denots, Valss, flat, owns}
 use denote.Ref.{RefT, MutRef, ptr, name, now, at-last, ptr-vals, mut-tells}
 use denote.Signature.{Slot, plain, typesAt}
 use denote.Steps.{opens, closes, owned, peeks, nothing, said}
@@ -66,31 +65,21 @@ module _ {M : Type 1} (𝓤 : URA M) (H : Heap 𝓤) (A : Atoms 𝓤) where
   abbrev pub back : SProp 𝓤 → (Ran → SProp 𝓤) → Val → SProp 𝓤
   back B E w = H .⇛ (ex 𝓤 (λ (r : Ran). sep 𝓤 (sep 𝓤 B (sem 𝓤 H A (R.the-row .own r (w ∷ [])))) (E r)))
 
-  -- P is what the core asks, and F stays aside meanwhile
-  abbrev pub Thin : Fun 𝓤 → (Val → (Val → SProp 𝓤) → SProp 𝓤) → Fun 𝓤 → ℕ → ℕ → List Val → Type 2
-  Thin core after run b o vs = (h : Device) (P₀ P F B : SProp 𝓤) (E : Ran → SProp 𝓤) (K : Val → SProp 𝓤)
+  -- at the start P₀ gives the record's cell, what the core asks, P, and what stays aside, F; at the end the cell with the new record, F and what came back give what is to be shown
+  abbrev pub Thin : Fun 𝓤 → Fun 𝓤 → ℕ → ℕ → List Val → Type 2
+  Thin core run b o vs = (h : Device) (P₀ P F B : SProp 𝓤) (E : Ran → SProp 𝓤) (K : Val → SProp 𝓤)
       → ent 𝓤 P₀ (H .⇛ (guard 𝓤 (Is D.the-row h (recordVal h ∷ [])) (sep 𝓤 (sem 𝓤 H A (cell h b o)) (sep 𝓤 P F))))
       → ent 𝓤 P (core (recordVal h ∷ vs) (back B E))
-      → ((r : Ran) → Is R.the-row r (ranVal r ∷ []) → ent 𝓤 (sep 𝓤 (sem 𝓤 H A (cell (r .device) b o)) (sep 𝓤 F (sep 𝓤 B (E r)))) (H .⇛ (after (answerVal (r .answer)) K)))
+      → ((r : Ran) → Is R.the-row r (ranVal r ∷ []) → ent 𝓤 (sep 𝓤 (sem 𝓤 H A (cell (r .device) b o)) (sep 𝓤 F (sep 𝓤 B (E r)))) (H .⇛ (K (answerVal (r .answer)))))
       → ent 𝓤 P₀ (run (vptr b o ∷ vs) K)
 
--- where the result is the answer itself
-abbrev pub answered : {M : Type 1} (𝓤 : URA M) → Val → (Val → SProp 𝓤) → SProp 𝓤
-answered 𝓤 v K = K v
-
-pub ends-answered : {M : Type 1} (𝓤 : URA M) (H : Heap 𝓤) (A : Atoms 𝓤) (W : Given 𝓤 H A) (a : Answer) → Is N.the-row a (answerVal a ∷ []) → (Z : SProp 𝓤) (K : Val → SProp 𝓤)
-    → ((v : Val) → ent 𝓤 (sep 𝓤 (sem 𝓤 H A (N.the-row .own a (v ∷ []))) Z) (K v)) → ent 𝓤 Z (H .⇛ (answered 𝓤 (answerVal a) K))
-ends-answered 𝓤 H A W a is Z K shown = qed W (raw Z ∷ []) ∵ updating ! $ at-once ! $ owned ! N.the-row (Is N.the-row) ((EL.makes N.the-type N′.the-plain) 𝓤 H A) a _ is $ by ! (shown (answerVal a))
-
-abbrev pub lending : RattleType → (n : ℕ) (ss : List (Slot (suc n))) → Kepts ss → Ended
-lending Out n ss ks = record {
-  signature = record { lifetimes = suc n; outlives = []; params = RefMutOf (0 ∷ []) tt (plain (λ _. D.the-row)) (λ _. tt) ∷ ss; result = plain (λ _. Out) };
+abbrev pub lending : (n : ℕ) (ss : List (Slot (suc n))) → Kepts ss → Ended
+lending n ss ks = record {
+  signature = record { lifetimes = suc n; outlives = []; params = RefMutOf (0 ∷ []) tt (plain (λ _. D.the-row)) (λ _. tt) ∷ ss; result = plain (λ _. N.the-row) };
   kept = (yes, ks);
 }
 
-module _ {M : Type 1} (𝓤 : URA M) (H : Heap 𝓤) (A : Atoms 𝓤) (W : Given 𝓤 H A) (Out : RattleType) (made : Answer → Out .Denot) (core run : Fun 𝓤) (after : Val → (Val → SProp 𝓤) → SProp 𝓤)
-    (ends : (a : Answer) → Is N.the-row a (answerVal a ∷ []) → (Z : SProp 𝓤) (K : Val → SProp 𝓤) → ((v : Val) → ent 𝓤 (sep 𝓤 (sem 𝓤 H A (Out .own (made a) (v ∷ []))) Z) (K v)) → ent 𝓤 Z (H .⇛ (after (answerVal a) K)))
-    (n : ℕ) (ss : List (Slot (suc n))) (ks : Kepts ss) (c : Clauses 𝓤 (lending Out n ss ks)) where
+module _ {M : Type 1} (𝓤 : URA M) (H : Heap 𝓤) (A : Atoms 𝓤) (W : Given 𝓤 H A) (core run : Fun 𝓤) (n : ℕ) (ss : List (Slot (suc n))) (ks : Kepts ss) (c : Clauses 𝓤 (lending n ss ks)) where
   module _ (κs : Lfts (suc n)) (qs : Shares (suc n)) (x : RefT Device) (a : Denots (typesAt ss κs)) (vss : Valss (typesAt ss κs)) (Φ : Answer → Device → Fins κs ss ks a → SProp 𝓤) where
     abbrev Toks : SProp 𝓤
     Toks = toks 𝓤 A n (κs .1) (qs .1)
@@ -122,26 +111,25 @@ module _ {M : Type 1} (𝓤 : URA M) (H : Heap 𝓤) (A : Atoms 𝓤) (W : Given
         move ! (1 ∷ []) $ peeks ! D.the-row (Is D.the-row) (shows 𝓤 H A D.the-row) (now x) (recordVal (now x) ∷ []) (λ is. at-once ! $ check ! is $
         move ! (1 ∷ []) $ frame ! $ move ! (0 ∷ 4 ∷ []) $ fjoin ! $ move ! (4 ∷ 0 ∷ []) $ join ! $ nothing ! $ move ! (1 ∷ 0 ∷ []) $ join ! $ frame ! $ move ! (1 ∷ 2 ∷ []) $ fjoin ! $ move ! (1 ∷ 0 ∷ []) $ fjoin ! $ done !))
 
-    module _ (g : c κs (x, a) .ghost) (tells : (r : Answer) (d : Device) (ws : Fins κs ss ks a) → ent 𝓤 (Φ r d ws) (c κs (x, a) .ensures g (made r) (at-last x d, outs κs ss ks a ws))) where
-      -- what it says of its result
-      abbrev Says : Out .Denot → SProp 𝓤
-      Says r = ex 𝓤 (λ (ws : Device × Fins κs ss ks a). sep 𝓤 (sem 𝓤 H A (fsep (fres (name x) (D.the-row .coded .code (ws .0))) (lastsOf κs ss ks a (ws .1)))) (c κs (x, a) .ensures g r (at-last x (ws .0), outs κs ss ks a (ws .1))))
+    module _ (g : c κs (x, a) .ghost) (tells : (r : Answer) (d : Device) (ws : Fins κs ss ks a) → ent 𝓤 (Φ r d ws) (c κs (x, a) .ensures g r (at-last x d, outs κs ss ks a ws))) where
+      -- what it says of its result, at some last values
+      abbrev Says : Answer → Device × Fins κs ss ks a → SProp 𝓤
+      Says r ws = sep 𝓤 (sem 𝓤 H A (fsep (fres (name x) (D.the-row .coded .code (ws .0))) (lastsOf κs ss ks a (ws .1)))) (c κs (x, a) .ensures g r (at-last x (ws .0), outs κs ss ks a (ws .1)))
 
-      abbrev Returns : Val → Out .Denot → SProp 𝓤
-      Returns v r = sep 𝓤 (sep 𝓤 (sep 𝓤 (A .lft (κs .0) (qs .0)) Toks) (sem 𝓤 H A (Out .own r (v ∷ [])))) (Says r)
+      abbrev Returns : Val → Answer → SProp 𝓤
+      Returns v r = sep 𝓤 (sep 𝓤 (sep 𝓤 (A .lft (κs .0) (qs .0)) Toks) (sem 𝓤 H A (N.the-row .own r (v ∷ [])))) (ex 𝓤 (Says r))
 
       abbrev Post : Val → SProp 𝓤
       Post v = H .⇛ (ex 𝓤 (Returns v))
 
       returning : (r : Ran) (ws : Fins κs ss ks a) (v : Val)
-          → ent 𝓤 (sep 𝓤 (sem 𝓤 H A (Out .own (made (r .answer)) (v ∷ []))) (sep 𝓤 (sem 𝓤 H A (fres (name x) (D.the-row .coded .code (r .device)))) (sep 𝓤 (A .lft (κs .0) (qs .0)) (sep 𝓤 (sem 𝓤 H A (lastsOf κs ss ks a ws)) (sep 𝓤 (Φ (r .answer) (r .device) ws) Toks))))) (Post v)
+          → ent 𝓤 (sep 𝓤 (sem 𝓤 H A (N.the-row .own (r .answer) (v ∷ []))) (sep 𝓤 (sem 𝓤 H A (fres (name x) (D.the-row .coded .code (r .device)))) (sep 𝓤 (A .lft (κs .0) (qs .0)) (sep 𝓤 (sem 𝓤 H A (lastsOf κs ss ks a ws)) (sep 𝓤 (Φ (r .answer) (r .device) ws) Toks))))) (Post v)
       returning r ws v =
-          qed W (‵ (Out .own (made (r .answer)) (v ∷ [])) ∷ ‵ (fres (name x) (D.the-row .coded .code (r .device))) ∷ ‵ (flft (κs .0) (qs .0)) ∷ ‵ (lastsOf κs ss ks a ws) ∷ raw (Φ (r .answer) (r .device) ws) ∷ raw Toks ∷ []) ∵
-          updating ! $ at-once ! $ show ! (Returns v) (made (r .answer)) $ move ! (2 ∷ 5 ∷ []) $ join ! $ move ! (0 ∷ 1 ∷ []) $ join ! $ frame ! $
-          show ! (λ (us : Device × Fins κs ss ks a). sep 𝓤 (sem 𝓤 H A (fsep (fres (name x) (D.the-row .coded .code (us .0))) (lastsOf κs ss ks a (us .1)))) (c κs (x, a) .ensures g (made (r .answer)) (at-last x (us .0), outs κs ss ks a (us .1)))) (r .device, ws) $
-          fjoin ! $ frame ! $ by ! (tells (r .answer) (r .device) ws)
+          qed W (‵ (N.the-row .own (r .answer) (v ∷ [])) ∷ ‵ (fres (name x) (D.the-row .coded .code (r .device))) ∷ ‵ (flft (κs .0) (qs .0)) ∷ ‵ (lastsOf κs ss ks a ws) ∷ raw (Φ (r .answer) (r .device) ws) ∷ raw Toks ∷ []) ∵
+          updating ! $ at-once ! $ show ! (Returns v) (r .answer) $ move ! (2 ∷ 5 ∷ []) $ join ! $ move ! (0 ∷ 1 ∷ []) $ join ! $ frame ! $
+          show ! (Says (r .answer)) (r .device, ws) $ fjoin ! $ frame ! $ by ! (tells (r .answer) (r .device) ws)
 
-      closing-up : (r : Ran) → Is R.the-row r (ranVal r ∷ []) → ent 𝓤 (sep 𝓤 (sem 𝓤 H A (cell (r .device) (ptr x .0) (ptr x .1))) (sep 𝓤 (sem 𝓤 H A Aside) (sep 𝓤 Toks (Told r)))) (H .⇛ (after (answerVal (r .answer)) Post))
+      closing-up : (r : Ran) → Is R.the-row r (ranVal r ∷ []) → ent 𝓤 (sep 𝓤 (sem 𝓤 H A (cell (r .device) (ptr x .0) (ptr x .1))) (sep 𝓤 (sem 𝓤 H A Aside) (sep 𝓤 Toks (Told r)))) (H .⇛ (Post (answerVal (r .answer))))
       closing-up r is =
           let are = LL.owed R.the-type R′.the-laws r _ is in
           qed W (‵ (cell (r .device) (ptr x .0) (ptr x .1)) ∷ ‵ Aside ∷ raw Toks ∷ some (λ (ws : Unit {0} × Fins κs ss ks a). ‵ (fsep ftrue (lastsOf κs ss ks a (ws .1))) ⊛ raw (Φ (r .answer) (r .device) (ws .1))) ∷ []) ∵ updating ! $
@@ -151,22 +139,22 @@ module _ {M : Type 1} (𝓤 : URA M) (H : Heap 𝓤) (A : Atoms 𝓤) (W : Given
           closes ! tt D.the-row (r .device) (recordVal (r .device) ∷ []) (ptr x .0) (ptr x .1) $
           use1 W (‵ (fres (name x) (D.the-row .coded .code (r .device)))) (W .names .obs-res (name x) (D.the-row .coded .code (r .device))) $ move ! (1 ∷ []) $ drop ! $
           -- [the record's last value; the token; what is said of the other last values; what the core says; the other tokens]
-          by ! (ends (r .answer) (are .0) _ Post (returning r (ws .1))))
+          at-once ! $ owned ! N.the-row (Is N.the-row) ((EL.makes N.the-type N′.the-plain) 𝓤 H A) (r .answer) _ (are .0) $ by ! (returning r (ws .1) (answerVal (r .answer))))
 
-      lent : Thin 𝓤 H A core after run (ptr x .0) (ptr x .1) (flat (typesAt ss κs) vss) → ent 𝓤 Asked (core (recordVal (now x) ∷ flat (typesAt ss κs) vss) (back 𝓤 H A Toks Told)) → ent 𝓤 Lent (run (vptr (ptr x .0) (ptr x .1) ∷ flat (typesAt ss κs) vss) Post)
+      lent : Thin 𝓤 H A core run (ptr x .0) (ptr x .1) (flat (typesAt ss κs) vss) → ent 𝓤 Asked (core (recordVal (now x) ∷ flat (typesAt ss κs) vss) (back 𝓤 H A Toks Told)) → ent 𝓤 Lent (run (vptr (ptr x .0) (ptr x .1) ∷ flat (typesAt ss κs) vss) Post)
       lent thin known = thin (now x) Lent Asked (sem 𝓤 H A Aside) Toks Told Post opening known closing-up
 
   pub meets : (sp : (κs : Lfts (suc n)) → Spells (typesAt ss κs)) → ((κs : Lfts (suc n)) → Tellss (typesAt ss κs) (Ises (typesAt ss κs)) (sp κs))
       → (Φ : (κs : Lfts (suc n)) (x : RefT Device) (a : Denots (typesAt ss κs)) → Answer → Device → Fins κs ss ks a → SProp 𝓤)
-      → ((κs : Lfts (suc n)) (x : RefT Device) (a : Denots (typesAt ss κs)) (g : c κs (x, a) .ghost) (r : Answer) (d : Device) (ws : Fins κs ss ks a) → ent 𝓤 (Φ κs x a r d ws) (c κs (x, a) .ensures g (made r) (at-last x d, outs κs ss ks a ws)))
-      → ((κs : Lfts (suc n)) (x : RefT Device) (a : Denots (typesAt ss κs)) → Are (typesAt ss κs) (Ises (typesAt ss κs)) a (valss (typesAt ss κs) (sp κs) a) → Thin 𝓤 H A core after run (ptr x .0) (ptr x .1) (flat (typesAt ss κs) (valss (typesAt ss κs) (sp κs) a)))
+      → ((κs : Lfts (suc n)) (x : RefT Device) (a : Denots (typesAt ss κs)) (g : c κs (x, a) .ghost) (r : Answer) (d : Device) (ws : Fins κs ss ks a) → ent 𝓤 (Φ κs x a r d ws) (c κs (x, a) .ensures g r (at-last x d, outs κs ss ks a ws)))
+      → ((κs : Lfts (suc n)) (x : RefT Device) (a : Denots (typesAt ss κs)) → Are (typesAt ss κs) (Ises (typesAt ss κs)) a (valss (typesAt ss κs) (sp κs) a) → Thin 𝓤 H A core run (ptr x .0) (ptr x .1) (flat (typesAt ss κs) (valss (typesAt ss κs) (sp κs) a)))
       → ((κs : Lfts (suc n)) (qs : Shares (suc n)) (x : RefT Device) (a : Denots (typesAt ss κs)) → ent 𝓤 (Asked κs qs x a (valss (typesAt ss κs) (sp κs) a) (Φ κs x a)) (core (recordVal (now x) ∷ flat (typesAt ss κs) (valss (typesAt ss κs) (sp κs) a)) (back 𝓤 H A (toks 𝓤 A n (κs .1) (qs .1)) (Told κs qs x a (valss (typesAt ss κs) (sp κs) a) (Φ κs x a)))))
-      → Meets 𝓤 H A (lending Out n ss ks .signature) run (closing 𝓤 H A (lending Out n ss ks) c)
+      → Meets 𝓤 H A (lending n ss ks .signature) run (closing 𝓤 H A (lending n ss ks) c)
   meets sp tl Φ tells thin known y =
       let κs : Lfts (suc n) = y .0 .0 in
       let qs : Shares (suc n) = y .0 .1 in
       let x : RefT Device = y .0 .3 .0 in
       let a : Denots (typesAt ss κs) = y .0 .3 .1 in
-      via 𝓤 _ (fst∗ 𝓤 _ (c κs (x, a) .requires (y .1))) (said 𝓤 H A (lending Out n ss ks .signature) κs qs (ptr-vals, sp κs) (mut-tells (named 0) (κs .0) D.the-row, tl κs) (x, a)
-      (λ us. run (flat (typesAt (lending Out n ss ks .signature .params) κs) us) (tripleOf 𝓤 H A (lending Out n ss ks .signature) (closing 𝓤 H A (lending Out n ss ks) c) .post ((κs, qs, y .0 .2, (x, a), us), y .1))) (y .0 .4)
+      via 𝓤 _ (fst∗ 𝓤 _ (c κs (x, a) .requires (y .1))) (said 𝓤 H A (lending n ss ks .signature) κs qs (ptr-vals, sp κs) (mut-tells (named 0) (κs .0) D.the-row, tl κs) (x, a)
+      (λ us. run (flat (typesAt (lending n ss ks .signature .params) κs) us) (tripleOf 𝓤 H A (lending n ss ks .signature) (closing 𝓤 H A (lending n ss ks) c) .post ((κs, qs, y .0 .2, (x, a), us), y .1))) (y .0 .4)
       (λ are. lent κs qs x a (valss (typesAt ss κs) (sp κs) a) (Φ κs x a) (y .1) (tells κs x a (y .1)) (thin κs x a (are .1)) (known κs qs x a)))

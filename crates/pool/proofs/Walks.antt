@@ -1,7 +1,7 @@
 -- Steps of a walk which shows that the code of a call is thin (`Lent.antt`).
 --     opened       at the start: what the core asks, what stays aside, and the record's cell
 --     stores       after the core has run: the record that came back is stored at its place
---     copied, leave    a local is copied; a local is freed, whatever it holds
+--     at-spot, copied, leave    a place whose local is known; a local is copied; a local is freed, whatever it holds
 -- Assumes `Given`.
 use mathlib.Core.Path.{_≡_, refl, sym, ap, subst}
 use Prim.Native.Nat.{ℕ, zero}
@@ -33,7 +33,7 @@ use Rattle.rules.proofs.Ran.Laws as R′
 use Rattle.pool.proofs.Lent.{recordVal, answerVal, ranVal, cell, back}
 
 -- a place whose local is known
-at-spot : {M : Type 1} {𝓤 : URA M} {H : Heap 𝓤} {A : Atoms 𝓤} {K : Type 0} {W : Given 𝓤 H A} {Γ : List (Item 𝓤)} → K → {E : Env 𝓤 H} {k : ℕ} {st : List PlaceStep} {sp sp′ : Spot 𝓤 H} → spotOf 𝓤 H E k ≡ sp → Walks K W Γ E sp st sp′ → Finds K W Γ E (place k st) sp′
+pub at-spot : {M : Type 1} {𝓤 : URA M} {H : Heap 𝓤} {A : Atoms 𝓤} {K : Type 0} {W : Given 𝓤 H A} {Γ : List (Item 𝓤)} → K → {E : Env 𝓤 H} {k : ℕ} {st : List PlaceStep} {sp sp′ : Spot 𝓤 H} → spotOf 𝓤 H E k ≡ sp → Walks K W Γ E sp st sp′ → Finds K W Γ E (place k st) sp′
 at-spot {𝓤 = 𝓤} {H = H} {K = K} {W = W} {Γ = Γ} t {E} {k} {st} {sp} {sp′} e w = from t (subst (λ (s : Spot 𝓤 H). Walks K W Γ E s st sp′) (sym e) w)
 
 module _ {M : Type 1} {𝓤 : URA M} {H : Heap 𝓤} {A : Atoms 𝓤} {K : Type 0} {W : Given 𝓤 H A} {Γ : List (Item 𝓤)} where
