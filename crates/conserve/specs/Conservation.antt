@@ -16,10 +16,9 @@ use Rattle.shape.specs.Laws.{place-inside}
 use Rattle.rules.specs.Numbers.{ALLOCATED, FREE, FREEING, ALLOCATING}
 use Rattle.rules.specs.Tables.{State, stateAt, fresh}
 use Rattle.rules.specs.Valid.{statesKnown, valid}
-use Rattle.rules.specs.Facts.{valid-facts}
+use Rattle.rules.specs.Facts.{Sound, valid-facts}
 use Rattle.rules.specs.Questions.{undivided}
 use Rattle.history.specs.History.{Step, stepOn, runSteps}
-use Rattle.history.specs.Running.{Sound}
 use Rattle.preserve.specs.Histories.{steps-valid, runs-valid, histories-valid}
 use Rattle.conserve.specs.Pairs.{mapPairs}
 use Rattle.conserve.specs.Partition.{Standing, sizes, Follow, map-follows, map-bytes}

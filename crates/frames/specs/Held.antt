@@ -24,11 +24,12 @@ use Rattle.rules.specs.Steps.{Outcome, takeFrom, splitStep, grantStep, mergeSte
 use Rattle.rules.specs.Questions.{coverLevel}
 use Rattle.forest.specs.Bytes.{HasByte, lies-in, byte-inside}
 use Rattle.forest.specs.Cover.{cover-one}
+use Rattle.rules.specs.Facts.{Sound}
 use Rattle.history.specs.History.{Step, Build, GoOn, stepOn}
 use Rattle.preserve.specs.Lines.{Facts, facts}
 use Rattle.preserve.specs.Histories.{steps-valid}
 use Rattle.history.specs.Walk.{EachGoOn, EachStep, each-step}
-use Rattle.history.specs.Running.{Sound, Running, allocating}
+use Rattle.history.specs.Running.{Running, allocating}
 use Rattle.history.specs.Given.{alike}
 use Rattle.frames.specs.Others.{maker}
 

@@ -7,25 +7,18 @@ use native.Mathlib.Omega.{arith}
 use lib.Dec.{eqb}
 use borrow.Author.Tests.{lt-ltb, le-ltb, eq-eqb, ne-eqb}
 use Rattle.shape.specs.declared.Shape.{Shape}
-use Rattle.shape.specs.Limits.{allowed}
 use Rattle.shape.specs.Blocks.{count, levelFor}
 use Rattle.rules.specs.declared.Call.{Call}
 use Rattle.rules.specs.Numbers.{FREEING, ALLOCATING, CLOSED, DIVIDING, RELEASING, WAITING}
 use Rattle.rules.specs.Tables.{State, lengths, stateAt, callOf}
 use Rattle.rules.specs.Valid.{usesBlock, oneToOne, valid}
-use Rattle.rules.specs.Facts.{ValidFacts, valid-facts}
+use Rattle.rules.specs.Facts.{Sound, ValidFacts, valid-facts}
 use Rattle.rules.specs.Room.{CallFacts, call-facts, hand-inside, hand-state}
 use Rattle.rules.specs.Steps.{splitStep, grantStep, divideStep, releaseStep, goOnStep}
 use Rattle.rules.specs.Calls.{goOn}
 use Rattle.history.specs.Given.{running-ready}
 
--- the shape is allowed, and the tables have its lengths and are a valid state
-pub record Sound (s : Shape) (T : State) : Type 0 where
-  pub shape : allowed s ≡ true
-  pub lengths : lengths s T ≡ true
-  pub valid : valid s T ≡ true
-
--- thread t runs on them, and c is its call
+-- thread t runs on sound tables, and c is its call
 pub record Running (s : Shape) (T : State) (t : ℕ) (c : Call) : Type 0 where
   pub sound : Sound s T
   pub thread : t < s .threads

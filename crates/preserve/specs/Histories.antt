@@ -13,8 +13,9 @@ use Rattle.rules.specs.declared.Call.{Call}
 use Rattle.rules.specs.Tables.{State, lengths, fresh}
 use Rattle.rules.specs.Steps.{Outcome}
 use Rattle.rules.specs.Calls.{build}
+use Rattle.rules.specs.Facts.{Sound}
 use Rattle.history.specs.History.{Step, Build, stepOn, runSteps}
-use Rattle.history.specs.Running.{Sound, Running}
+use Rattle.history.specs.Running.{Running}
 use Rattle.history.specs.Walk.{EachGoOn, EachStep, each-step}
 use Rattle.preserve.specs.Lines.{Facts, facts, sound-of}
 use Rattle.preserve.specs.Asks.{ask-kept, switch-kept, tick-kept}

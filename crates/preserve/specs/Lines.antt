@@ -14,9 +14,8 @@ use Rattle.rules.specs.declared.Device.{Device}
 use Rattle.rules.specs.Numbers.{FREEING, ALLOCATING, DIVIDING, RELEASING, CELLS}
 use Rattle.rules.specs.Tables.{State, lengths}
 use Rattle.rules.specs.Valid.{statesKnown, ownersKnown, topsExist, partsExist, deepestWhole, buddiesMerged, listEnds, freeListed, callsKept, oneToOne, queueEnds, waitersQueued, runningReady, valid}
-use Rattle.rules.specs.Facts.{ValidFacts, valid-facts}
+use Rattle.rules.specs.Facts.{Sound, ValidFacts, valid-facts}
 use Rattle.rules.specs.Room.{LengthFacts, length-facts}
-use Rattle.history.specs.Running.{Sound}
 
 pub record Pool (s : Shape) (states owners lists : List ℕ) : Type 0 where
   pub long : length states ≡ blocks s

@@ -20,8 +20,9 @@ use Rattle.rules.specs.Numbers.{DIVIDING, RELEASING}
 use Rattle.rules.specs.Tables.{State, queueOf, callOf}
 use Rattle.rules.specs.Steps.{closed, holding}
 use Rattle.rules.specs.Calls.{goOn}
+use Rattle.rules.specs.Facts.{Sound}
 use Rattle.history.specs.History.{Step, Build, Ask, GoOn, Give, Switch, Tick, Whole, stepOn, runSteps}
-use Rattle.history.specs.Running.{Sound, Running}
+use Rattle.history.specs.Running.{Running}
 use Rattle.preserve.specs.Histories.{steps-valid, runs-valid}
 use Rattle.progress.specs.Own.{leftOf, Next, left-falls, own-grants, own-releases}
 use Rattle.progress.specs.Stays.{builds, turn, call-stays}
