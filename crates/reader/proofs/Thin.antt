@@ -30,7 +30,8 @@ use Rattle.reader.specs.declared.Reader.{Reader}
 use Rattle.reader.proofs.Reader as T
 use Rattle.reader.proofs.Reader.Laws as T′
 use Rattle.reader.proofs.Held.{outer, vals, tells, typed, opened}
-use Rattle.reader.proofs.Walks.{Spelled, Told, Promise, called, Walk, returned, hands-back, copied, leave}
+use Rattle.walks.specs.Steps.{copied, leave}
+use Rattle.reader.proofs.Walks.{Spelled, Told, Promise, called, Walk, returned, hands-back}
 
 abbrev pub OfReader : Slot 1 → Ended
 OfReader R = record {

@@ -37,7 +37,7 @@ use denote.Triple.Statement.{Contract, Triple}
 use Rattle.rules.specs.declared.Answer.{Answer}
 use Rattle.rules.proofs.Answer as N
 use Rattle.rules.proofs.Answer.Laws as N′
-use Rattle.pool.proofs.Walks.{at-spot}
+use Rattle.walks.specs.Steps.{at-spot}
 use Rattle.saltbalance_c.specs.declared.said.Said.{Said}
 use Rattle.saltbalance_c.specs.Said.{said}
 use Rattle.saltbalance_c.proofs.said.Said as T

@@ -22,7 +22,8 @@ use Rattle.reader.specs.declared.Reader.{Reader}
 use Rattle.reader.proofs.Reader as T
 use Rattle.reader.proofs.Reader.Laws as T′
 use Rattle.reader.proofs.Held.{outer, vals, tells, typed}
-use Rattle.reader.proofs.Walks.{Spelled, Told, called, Walk, proved, ends, copied, leave}
+use Rattle.walks.specs.Steps.{copied, leave}
+use Rattle.reader.proofs.Walks.{Spelled, Told, called, Walk, proved, ends}
 use Rattle.reader.proofs.moved.Key.{name as #reader·moved}
 use Rattle.reader.proofs.moved as moved
 use Rattle.reader.proofs.moved.Statement as stated

@@ -26,7 +26,8 @@ use denote.Struct.Rest.{own-shut}
 use Rattle.reader.specs.declared.Reader.{Reader}
 use Rattle.reader.proofs.Reader as T
 use Rattle.reader.proofs.Reader.Laws as T′
-use Rattle.reader.proofs.Walks.{Spelled, Told, called, Walk, proved, ends, copied, leave}
+use Rattle.walks.specs.Steps.{copied, leave}
+use Rattle.reader.proofs.Walks.{Spelled, Told, called, Walk, proved, ends}
 use Rattle.reader.proofs.new.Key.{name as #reader·new}
 use Rattle.reader.proofs.new as new
 use Rattle.reader.proofs.new.Statement as stated

@@ -30,7 +30,8 @@ use Rattle.rules.proofs.script.Read as S
 use Rattle.rules.proofs.script.Read.Laws as S′
 use Rattle.reader.specs.declared.Reader.{Reader}
 use Rattle.reader.proofs.Held.{inner, typed}
-use Rattle.reader.proofs.Walks.{Spelled, Told, Promise, called, Walk, proved, framed-calls, asks, ends, copied, leave}
+use Rattle.walks.specs.Steps.{copied, leave}
+use Rattle.reader.proofs.Walks.{Spelled, Told, Promise, called, Walk, proved, framed-calls, asks, ends}
 use Rattle.reader.proofs.new as new
 use Rattle.reader.proofs.new.Symbol as new-def
 use Rattle.reader.proofs.new.Symbol.{name as #reader·new}
