@@ -1,0 +1,4 @@
+pub mod Framing
+pub mod Forms
+pub mod Reads
+pub mod Bad
