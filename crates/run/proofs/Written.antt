@@ -1,0 +1,65 @@
+-- The lines of a script, record by record: at the script's end, at a bad record, and at a record and those behind it.
+-- Assumes nothing.
+use mathlib.Core.Path.{_≡_, refl, sym, _∙_, ap}
+use mathlib.Core.Bool.{false, cond}
+use mathlib.Core.List.{List, [], _∷_, _++_}
+use Prim.Native.Nat.{ℕ, zero, suc, _+_, _*_, _-_, _≤_, _<_}
+use native.Mathlib.Omega.{arith}
+use lib.ListN.{length}
+use lib.Seq.{sets, length-sets}
+use lib.Dec.{leb}
+use borrow.Author.Tests.{le-leb, lt-leb}
+use Rattle.laws.specs.Sets.{Put, put-behind}
+use Rattle.shape.specs.declared.Shape.{Shape}
+use Rattle.rules.specs.declared.Refusal.the-variants.{BadRecord}
+use Rattle.rules.specs.declared.Answer.{Answer}
+use Rattle.rules.specs.declared.Answer.the-variants.{Refused}
+use Rattle.rules.specs.declared.script.Record.{Record}
+use Rattle.rules.specs.declared.script.Record.the-variants.{Pool, Ask, ShortAsk, GoOn, Give, Switch, Tick, Whole}
+use Rattle.rules.specs.declared.script.Read.{Read}
+use Rattle.rules.specs.Tables.{State}
+use Rattle.rules.specs.Facts.{Sound}
+use Rattle.rules.specs.Steps.{Outcome, outcome}
+use Rattle.rules.specs.Script.{tagAt, readAt}
+use Rattle.rules.specs.Listing.{recordStep, shapeAfter, line, stops, readLines, lines}
+use Rattle.lines.specs.Room.{LINE-MOST}
+use Rattle.script.specs.Forms.{isPool}
+use Rattle.script.specs.Reads.{read-next, read-pool}
+use Rattle.run.specs.GoesOn.{GoesOn}
+use Rattle.run.specs.Sounds.{record-sound, record-goes-on}
+use Rattle.run.specs.Listed.{LISTING-MOST, Begun, Listed}
+
+-- no record but a shape's changes the shape
+same-shape : (s : Shape) (r : Record) → isPool r ≡ false → shapeAfter s r ≡ s
+same-shape s (Pool q) e = absurd (true≢false e)
+same-shape s (Ask t size m) e = refl
+same-shape s (ShortAsk t size) e = refl
+same-shape s (GoOn t) e = refl
+same-shape s (Give t i) e = refl
+same-shape s (Switch t) e = refl
+same-shape s Tick e = refl
+same-shape s Whole e = refl
+
+module _ (xs : List ℕ) (n at : ℕ) (s : Shape) (T : State) where
+  -- behind the last record there are no lines
+  lines-none : (most : ℕ) → length xs ≤ at → lines most xs n at s T ≡ []
+  unfolding lines
+  lines-none zero h = refl
+  lines-none (suc most) h = rw (le-leb (length xs) at h)
+
+  -- at a bad record there is one
+  lines-bad :
+      (most : ℕ) → at < length xs → readAt xs at ≡ Read.Bad →
+      lines (suc most) xs n at s T ≡ line n (tagAt xs at) (Refused (BadRecord at))
+  unfolding lines readLines
+  lines-bad most h e = rw (lt-leb (length xs) at h, e)
+
+  -- a record has its line before those of the records behind it
+  pub lines-record :
+      (most : ℕ) {r : Record} {next : ℕ} → at < length xs → readAt xs at ≡ Read.Record r next →
+      GoesOn (recordStep s T r) →
+      lines (suc most) xs n at s T
+      ≡ line n (tagAt xs at) (recordStep s T r .answer)
+      ++ lines most xs (n + 1) next (shapeAfter s r) (recordStep s T r .after)
+  unfolding lines readLines
+  lines-record most h e g = rw (lt-leb (length xs) at h, e, g .on)

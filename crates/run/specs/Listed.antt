@@ -1,0 +1,38 @@
+-- The lines of a script's records from an offset on, in a buffer with room for them.
+-- Assumes nothing.
+use mathlib.Core.Path.{_≡_}
+use mathlib.Core.List.{List}
+use Prim.Native.Nat.{ℕ, _+_, _*_, _≤_, _<_}
+use lib.ListN.{length}
+use Rattle.laws.specs.Sets.{Put}
+use Rattle.shape.specs.declared.Shape.{Shape}
+use Rattle.rules.specs.Numbers.{MOST-BYTES}
+use Rattle.rules.specs.Tables.{State}
+use Rattle.rules.specs.Facts.{Sound}
+use Rattle.rules.specs.Listing.{lines}
+use Rattle.lines.specs.Room.{LINE-MOST}
+
+-- the bytes of the header, and the least of a record
+abbrev pub HEADER-BYTES : ℕ
+HEADER-BYTES = 20
+
+abbrev pub RECORD-LEAST : ℕ
+RECORD-LEAST = 3
+
+-- the most bytes that a listing takes: the header, and a line for each of the records that a script has room for and one that is cut
+abbrev pub LISTING-MOST : ℕ
+LISTING-MOST = 742784
+
+-- what running the records from an offset on needs: they stand behind the shape, the tables are sound, the lines have room
+pub record Begun (xs : List ℕ) (n at : ℕ) (s : Shape) (T : State) (out : List ℕ) (end : ℕ) : Type 0 where
+  pub short : length xs ≤ MOST-BYTES
+  pub behind : 0 < n
+  pub counted : RECORD-LEAST * n ≤ at
+  pub sound : Sound s T
+  pub room : end ≤ HEADER-BYTES + LINE-MOST * n
+  pub long : LISTING-MOST ≤ length out
+
+-- the lines of the records from an offset on are stored from a place on, up to the last place
+pub record Listed (xs : List ℕ) (n at : ℕ) (s : Shape) (T : State) (out : List ℕ) (end : ℕ) (after : List ℕ) (last : ℕ) : Type 0 where
+  pub put : (most : ℕ) → length xs ≤ at + most → Put out end (lines most xs n at s T) last after
+  pub within : last ≤ LISTING-MOST

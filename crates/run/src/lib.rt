@@ -1,0 +1,2 @@
+// A whole script to its whole listing.
+pub mod turns;
