@@ -1,7 +1,7 @@
 -- The lines of a script, record by record: at the script's end, at a bad record, and at a record and those behind it.
 -- Assumes nothing.
 use mathlib.Core.Path.{_≡_, refl, sym, _∙_, ap}
-use mathlib.Core.Bool.{false, cond}
+use mathlib.Core.Bool.{false, true≢false}
 use mathlib.Core.List.{List, [], _∷_, _++_}
 use Prim.Native.Nat.{ℕ, zero, suc, _+_, _*_, _-_, _≤_, _<_}
 use native.Mathlib.Omega.{arith}
@@ -30,7 +30,7 @@ use Rattle.run.specs.Sounds.{record-sound, record-goes-on}
 use Rattle.run.specs.Listed.{LISTING-MOST, Begun, Listed}
 
 -- no record but a shape's changes the shape
-same-shape : (s : Shape) (r : Record) → isPool r ≡ false → shapeAfter s r ≡ s
+pub same-shape : (s : Shape) (r : Record) → isPool r ≡ false → shapeAfter s r ≡ s
 same-shape s (Pool q) e = absurd (true≢false e)
 same-shape s (Ask t size m) e = refl
 same-shape s (ShortAsk t size) e = refl
@@ -63,3 +63,35 @@ module _ (xs : List ℕ) (n at : ℕ) (s : Shape) (T : State) where
       ++ lines most xs (n + 1) next (shapeAfter s r) (recordStep s T r .after)
   unfolding lines readLines
   lines-record most h e g = rw (lt-leb (length xs) at h, e, g .on)
+
+-- where a script has more records, some may be read
+one-more : (most n at : ℕ) → at < n → n ≤ at + most → most ≡ suc (most - 1)
+one-more most n at h k = omega arith
+
+module _ {xs : List ℕ} {n at : ℕ} {s : Shape} {T : State} {out : List ℕ} {end : ℕ} where
+  pub listed-none : length xs ≤ at → end ≤ LISTING-MOST → Listed xs n at s T out end out end
+  listed-none h k = record { put = λ most m. rw (lines-none xs n at s T most h) (omega arith, refl); within = k }
+
+  module _ (h : at < length xs) where
+    pub listed-bad :
+        {after : List ℕ} {last : ℕ} → readAt xs at ≡ Read.Bad →
+        Put out end (line n (tagAt xs at) (Refused (BadRecord at))) last after → last ≤ LISTING-MOST →
+        Listed xs n at s T out end after last
+    listed-bad e p k =
+        record {
+          put = λ most m. rw (one-more most (length xs) at h m, lines-bad xs n at s T (most - 1) h e) p;
+          within = k;
+        }
+
+    pub listed-record :
+        {r : Record} {next : ℕ} {a : Answer} {U : State} {more after : List ℕ} {middle last : ℕ} →
+        readAt xs at ≡ Read.Record r next → GoesOn (recordStep s T r) → outcome a U ≡ recordStep s T r →
+        Put out end (line n (tagAt xs at) a) middle more →
+        Listed xs (n + 1) next (shapeAfter s r) U more middle after last → Listed xs n at s T out end after last
+    listed-record {r} {next} {a} {U} {more} {after} {middle} {last} e g o p rest =
+        record { put = λ most m. rw (one-more most (length xs) at h m) (whole (most - 1) (omega arith)); within = rest .within }
+      where
+        whole : (most : ℕ) → length xs ≤ at + suc most → Put out end (lines (suc most) xs n at s T) last after
+        whole most m =
+            rw (lines-record xs n at s T most h e g, ← o)
+            (put-behind out end (line n (tagAt xs at) a) _ p (rest .put most (omega (arith, read-next xs at r next e))))

@@ -28,6 +28,7 @@ pub record Begun (xs : List ℕ) (n at : ℕ) (s : Shape) (T : State) (out : Lis
   pub short : length xs ≤ MOST-BYTES
   pub behind : 0 < n
   pub counted : RECORD-LEAST * n ≤ at
+  pub inside : at ≤ length xs
   pub sound : Sound s T
   pub room : end ≤ HEADER-BYTES + LINE-MOST * n
   pub long : LISTING-MOST ≤ length out
