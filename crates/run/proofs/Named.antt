@@ -1,8 +1,12 @@
 -- A record that was found names its step: what the call promises is what the record's step is.
 -- Assumes nothing.
 use mathlib.Core.Path.{_≡_, sym, _∙_, ap}
-use mathlib.Core.Bool.{true, false, true≢false}
+use mathlib.Core.Bool.{true, false, true≢false, false≢true}
+use mathlib.Core.List.{[], _∷_}
 use Prim.Native.Nat.{ℕ}
+use types.Run.{OneOf, miss}
+use denote.Enum.Declared.{tagOf}
+use Rattle.rules.proofs.script.Record.{the-type}
 use Rattle.shape.specs.declared.Shape.{Shape}
 use Rattle.shape.specs.declared.time.Millis.{Millis}
 use Rattle.rules.specs.declared.Answer.{Answer}
@@ -19,6 +23,17 @@ use Rattle.script.specs.Forms.{isPool}
 -- a record that is no shape's is not found to be one
 pub no-pool : {r : Record} (q : Shape) → isPool r ≡ false → r ≡ Pool q → ⊥
 no-pool q e f = true≢false (sym (ap isPool f) ∙ e)
+
+-- and one that is a shape's is not found to be another
+pub only-pool : (r : Record) → isPool r ≡ true → OneOf (1 ∷ 2 ∷ 3 ∷ 4 ∷ 5 ∷ 6 ∷ 7 ∷ []) (tagOf the-type r) → ⊥
+only-pool (Pool q) e h = miss (1 ∷ 2 ∷ 3 ∷ 4 ∷ 5 ∷ 6 ∷ 7 ∷ []) 0 tt h
+only-pool (Ask t size m) e h = false≢true e
+only-pool (ShortAsk t size) e h = false≢true e
+only-pool (GoOn t) e h = false≢true e
+only-pool (Give t i) e h = false≢true e
+only-pool (Switch t) e h = false≢true e
+only-pool Tick e h = false≢true e
+only-pool Whole e h = false≢true e
 
 module _ (s : Shape) (T : State) {r : Record} {o : Outcome} where
   pub asks : {t size : ℕ} {m : Millis} → r ≡ Ask t size m → o ≡ ask s T t size m → o ≡ recordStep s T r

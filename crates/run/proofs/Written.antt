@@ -1,8 +1,8 @@
 -- The lines of a script, record by record: at the script's end, at a bad record, and at a record and those behind it.
 -- Assumes nothing.
 use mathlib.Core.Path.{_≡_, refl, sym, _∙_, ap}
-use mathlib.Core.Bool.{false, true≢false}
-use mathlib.Core.List.{List, [], _∷_, _++_}
+use mathlib.Core.Bool.{true, false, true≢false}
+use mathlib.Core.List.{List, [], _++_, append-nil}
 use Prim.Native.Nat.{ℕ, zero, suc, _+_, _*_, _-_, _≤_, _<_}
 use native.Mathlib.Omega.{arith}
 use lib.ListN.{length}
@@ -54,8 +54,16 @@ module _ (xs : List ℕ) (n at : ℕ) (s : Shape) (T : State) where
   unfolding lines readLines
   lines-bad most h e = rw (lt-leb (length xs) at h, e)
 
-  -- a record has its line before those of the records behind it
-  pub lines-record :
+  -- at a record that stops the run too
+  lines-stop :
+      (most : ℕ) {r : Record} {next : ℕ} → at < length xs → readAt xs at ≡ Read.Record r next →
+      stops (recordStep s T r .answer) ≡ true →
+      lines (suc most) xs n at s T ≡ line n (tagAt xs at) (recordStep s T r .answer)
+  unfolding lines readLines
+  lines-stop most h e g = rw (lt-leb (length xs) at h, e, g, append-nil)
+
+  -- any other record has its line before those of the records behind it
+  lines-record :
       (most : ℕ) {r : Record} {next : ℕ} → at < length xs → readAt xs at ≡ Read.Record r next →
       GoesOn (recordStep s T r) →
       lines (suc most) xs n at s T
@@ -80,6 +88,22 @@ module _ {xs : List ℕ} {n at : ℕ} {s : Shape} {T : State} {out : List ℕ} {
     listed-bad e p k =
         record {
           put = λ most m. rw (one-more most (length xs) at h m, lines-bad xs n at s T (most - 1) h e) p;
+          within = k;
+        }
+
+    pub listed-stop :
+        {r : Record} {next : ℕ} {a : Answer} {U : State} {after : List ℕ} {last : ℕ} → readAt xs at ≡ Read.Record r next →
+        outcome a U ≡ recordStep s T r → stops a ≡ true → Put out end (line n (tagAt xs at) a) last after →
+        last ≤ LISTING-MOST → Listed xs n at s T out end after last
+    listed-stop {a = a} {after = after} {last} e o g p k =
+        record {
+          put = λ most m.
+              rw (
+                one-more most (length xs) at h m,
+                lines-stop xs n at s T (most - 1) h e (ap (λ (x : Outcome). stops (x .answer)) (sym o) ∙ g),
+                ← o,
+              )
+              p;
           within = k;
         }
 

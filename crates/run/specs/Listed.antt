@@ -1,14 +1,20 @@
 -- The lines of a script's records from an offset on, in a buffer with room for them.
 -- Assumes nothing.
 use mathlib.Core.Path.{_≡_}
+use mathlib.Core.Bool.{true}
 use mathlib.Core.List.{List}
 use Prim.Native.Nat.{ℕ, _+_, _*_, _≤_, _<_}
 use lib.ListN.{length}
 use Rattle.laws.specs.Sets.{Put}
 use Rattle.shape.specs.declared.Shape.{Shape}
+use Rattle.shape.specs.Limits.{allowed}
+use Rattle.rules.specs.declared.script.Record.the-variants.{Pool}
+use Rattle.rules.specs.declared.script.Read.{Read}
 use Rattle.rules.specs.Numbers.{MOST-BYTES}
 use Rattle.rules.specs.Tables.{State}
+use Rattle.rules.specs.Room.{LengthFacts}
 use Rattle.rules.specs.Facts.{Sound}
+use Rattle.rules.specs.Script.{readAt}
 use Rattle.rules.specs.Listing.{lines}
 use Rattle.lines.specs.Room.{LINE-MOST}
 
@@ -37,3 +43,25 @@ pub record Begun (xs : List ℕ) (n at : ℕ) (s : Shape) (T : State) (out : Lis
 pub record Listed (xs : List ℕ) (n at : ℕ) (s : Shape) (T : State) (out : List ℕ) (end : ℕ) (after : List ℕ) (last : ℕ) : Type 0 where
   pub put : (most : ℕ) → length xs ≤ at + most → Put out end (lines most xs n at s T) last after
   pub within : last ≤ LISTING-MOST
+
+-- a script whose first record is this shape, with the header written and room for the lines
+pub record Headed (xs : List ℕ) (next : ℕ) (s : Shape) (out : List ℕ) (end : ℕ) : Type 0 where
+  pub some : 0 < length xs
+  pub short : length xs ≤ MOST-BYTES
+  pub first : readAt xs 0 ≡ Read.Record (Pool s) next
+  pub room : end ≤ HEADER-BYTES
+  pub long : LISTING-MOST ≤ length out
+
+-- tables at least as long as those of the largest shape
+pub record Largest (T : State) : Type 0 where
+  pub states : 5456 ≤ length (T .states)
+  pub owners : 5456 ≤ length (T .owners)
+  pub lists : 5461 ≤ length (T .lists)
+  pub calls : 48 ≤ length (T .calls)
+  pub queue : 9 ≤ length (T .queue)
+
+-- a script whose first record is this allowed shape, and tables of its lengths
+pub record Lent (xs : List ℕ) (next : ℕ) (s : Shape) (T : State) (out : List ℕ) (end : ℕ) : Type 0 where
+  pub headed : Headed xs next s out end
+  pub shape : allowed s ≡ true
+  pub lengths : LengthFacts s T
