@@ -6,9 +6,8 @@ use mathlib.Core.List.{List}
 use Prim.Native.Nat.{ℕ, _+_, _≤_, _<_}
 use native.Mathlib.Omega.{arith}
 use lib.ListN.{length}
-use lib.Seq.{length-sets}
+use lib.Seq.{sets, length-sets}
 use Rattle.laws.specs.Tests.{fails}
-use Rattle.laws.specs.Sets.{Put}
 use Rattle.shape.specs.declared.Shape.{Shape}
 use Rattle.rules.specs.declared.Refusal.the-variants.{BadRecord}
 use Rattle.rules.specs.declared.Answer.{Answer}
@@ -47,14 +46,14 @@ same-lengths f g =
     }
 
 -- a line is stored, and takes no more than its room
-pub record Line (out : List ℕ) (end n tag : ℕ) (a : Answer) (next : ℕ) (after : List ℕ) : Type 0 where
-  pub put : Put out end (line n tag a) next after
-  pub most : next ≤ end + LINE-MOST
+abbrev pub Line : List ℕ → ℕ → ℕ → ℕ → Answer → ℕ → List ℕ → Type 0
+Line out end n tag a next after =
+    (next ≡ end + length (line n tag a)) × (after ≡ sets out end (line n tag a)) × (next ≤ end + LINE-MOST)
 
 pub line-same :
-    {out : List ℕ} {end n tag : ℕ} {a : Answer} {next : ℕ} {after : List ℕ} → Line out end n tag a next after →
+    (out : List ℕ) (end n tag : ℕ) (a : Answer) {next : ℕ} {after : List ℕ} → Line out end n tag a next after →
     length after ≡ length out
-line-same {out} {end} {n} {tag} {a} p = ap length (p .put .1) ∙ length-sets out end (line n tag a)
+line-same out end n tag a p = ap length (p .1) ∙ length-sets out end (line n tag a)
 
 -- the run from an offset and tables on has come to another offset and other tables
 pub record Going (xs : List ℕ) (s : Shape) (from : ℕ) (S : State) (first : List ℕ) (start n at : ℕ) (T : State) (out : List ℕ) (end : ℕ) : Type 0 where
@@ -85,7 +84,7 @@ module _ {xs : List ℕ} {s : Shape} {from : ℕ} {S : State} {first : List ℕ}
     pub ends-bad :
         {after : List ℕ} {last : ℕ} → readAt xs at ≡ Read.Bad →
         Line out end n (tagAt xs at) (Refused (BadRecord at)) last after → Listed xs 1 from s S first start after last
-    ends-bad {after} {last} e p = g .rest after last (listed-bad h e (p .put) (omega (arith, p .most, here)))
+    ends-bad {after} {last} e p = g .rest after last (listed-bad h e (p .0, p .1) (omega (arith, here)))
 
     module _ {r : Record} {next : ℕ} (e : readAt xs at ≡ Read.Record r next) where
       -- any other is no shape's
@@ -96,7 +95,7 @@ module _ {xs : List ℕ} {s : Shape} {from : ℕ} {S : State} {first : List ℕ}
       pub goes-on :
           {a : Answer} {U : State} {middle : ℕ} {more : List ℕ} → outcome a U ≡ recordStep s T r →
           Line out end n (tagAt xs at) a middle more → Going xs s from S first start (n + 1) next U more middle
-      goes-on o p =
+      goes-on {a} o p =
           record {
             here =
                 record {
@@ -105,12 +104,12 @@ module _ {xs : List ℕ} {s : Shape} {from : ℕ} {S : State} {first : List ℕ}
                   counted = omega (arith, read-next xs at r next e, here .counted);
                   inside = read-next xs at r next e .1;
                   sound = rw (ap (λ (x : Outcome). x .after) o) (record-sound (here .sound) r no-shape);
-                  room = omega (arith, p .most, here .room);
-                  long = omega (arith, line-same p, here .long);
+                  room = omega (arith, here .room);
+                  long = omega (arith, line-same out end n (tagAt xs at) a p, here .long);
                 };
             rest = λ after last l.
                 g .rest after last
-                (listed-record h e (record-goes-on (here .sound) r no-shape) o (p .put)
+                (listed-record h e (record-goes-on (here .sound) r no-shape) o (p .0, p .1)
                 (rw (same-shape s r no-shape) l));
-            same = line-same p ∙ g .same;
+            same = line-same out end n (tagAt xs at) a p ∙ g .same;
           }

@@ -1,6 +1,6 @@
 pub mod Named
 pub mod Written
 pub mod Going
-pub mod First
-pub mod Headers
+pub mod Heads
 pub mod Lends
+pub mod Titles

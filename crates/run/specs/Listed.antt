@@ -11,11 +11,11 @@ use Rattle.shape.specs.Limits.{allowed}
 use Rattle.rules.specs.declared.script.Record.the-variants.{Pool}
 use Rattle.rules.specs.declared.script.Read.{Read}
 use Rattle.rules.specs.Numbers.{MOST-BYTES}
-use Rattle.rules.specs.Tables.{State}
+use Rattle.rules.specs.Tables.{State, fresh}
 use Rattle.rules.specs.Room.{LengthFacts}
 use Rattle.rules.specs.Facts.{Sound}
 use Rattle.rules.specs.Script.{readAt}
-use Rattle.rules.specs.Listing.{lines}
+use Rattle.rules.specs.Listing.{lines, noShape}
 use Rattle.lines.specs.Room.{LINE-MOST}
 
 -- the bytes of the header, and the least of a record
@@ -44,13 +44,21 @@ pub record Listed (xs : List ℕ) (n at : ℕ) (s : Shape) (T : State) (out : Li
   pub put : (most : ℕ) → length xs ≤ at + most → Put out end (lines most xs n at s T) last after
   pub within : last ≤ LISTING-MOST
 
--- a script whose first record is this shape, with the header written and room for the lines
-pub record Headed (xs : List ℕ) (next : ℕ) (s : Shape) (out : List ℕ) (end : ℕ) : Type 0 where
+-- all lines of a script that is run: before its shape there is no pool
+abbrev pub AllListed : List ℕ → List ℕ → ℕ → List ℕ → ℕ → Type 0
+AllListed xs out end after last = Listed xs 0 0 noShape (fresh noShape) out end after last
+
+-- a script that is run, with the header written and room for the lines
+pub record Titled (xs out : List ℕ) (end : ℕ) : Type 0 where
   pub some : 0 < length xs
   pub short : length xs ≤ MOST-BYTES
-  pub first : readAt xs 0 ≡ Read.Record (Pool s) next
   pub room : end ≤ HEADER-BYTES
   pub long : LISTING-MOST ≤ length out
+
+-- and whose first record is this shape
+pub record Headed (xs : List ℕ) (next : ℕ) (s : Shape) (out : List ℕ) (end : ℕ) : Type 0 where
+  pub titled : Titled xs out end
+  pub first : readAt xs 0 ≡ Read.Record (Pool s) next
 
 -- tables at least as long as those of the largest shape
 pub record Largest (T : State) : Type 0 where

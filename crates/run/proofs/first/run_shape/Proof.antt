@@ -1,4 +1,4 @@
--- `run::run_shape` meets its contract: a shape that is not allowed is refused, and the tables of an allowed one are parts of the longest.
+-- `run::first::run_shape` meets its contract: a shape that is not allowed is refused, and the tables of an allowed one are parts of the longest.
 -- Assumes nothing.
 use mathlib.Core.Path.{_≡_, sym, _∙_}
 use mathlib.Core.Bool.{true}
@@ -7,11 +7,11 @@ use borrow.Author.Tests.{not-true, not-false}
 use lib.Seq.{length-take-le}
 use Rattle.shape.specs.Limits.{allowed}
 use Rattle.rules.specs.Tables.{State, state, fresh}
-use Rattle.run.proofs.First.{listed-refused}
+use Rattle.run.proofs.Heads.{listed-refused}
 use Rattle.run.proofs.Lends.{Fits, fits, fitting}
 use borrow.Author.Needs.{needs}
-use Rattle.run.proofs.run_shape.Statement.{statement}
-use Rattle.run.proofs.run_shape.Tie as tie
+use Rattle.run.proofs.first.run_shape.Statement.{statement}
+use Rattle.run.proofs.first.run_shape.Tie as tie
 
 abbrev start : tie.After-lengths-of → tie.Start
 start c = c .before .before .before .before .before .before .before .before .before .before
@@ -38,7 +38,7 @@ same-length : tie.Need-same-length
 same-length c = search needs
 
 returns : tie.Need-returns
-returns c = listed-refused (c .before .before .before .before .before .before .before .before .before .before .before .before .before .before .pre .0) (sym (c .before .before .before .before .before .before .allowed .ensures) ∙ not-true (c .before .before .before .before .before .before .allowed .result) (c .before .before .before .before .before .if1 .taken)) (record { put = (c .before .before .put-line .ensures .0, c .before .before .put-line .ensures .1); most = c .before .before .put-line .ensures .2 })
+returns c = listed-refused (c .before .before .before .before .before .before .before .before .before .before .before .before .before .before .pre .0) (sym (c .before .before .before .before .before .before .allowed .ensures) ∙ not-true (c .before .before .before .before .before .before .allowed .result) (c .before .before .before .before .before .if1 .taken)) (c .before .before .put-line .ensures)
 
 lengths-of-requires : tie.Need-lengths-of-requires
 lengths-of-requires c κs = search needs
