@@ -1,0 +1,48 @@
+-- The tables of a shape as parts of the longest ones.
+-- Assumes nothing.
+use mathlib.Core.Path.{_≡_, refl, _∙_}
+use mathlib.Core.Bool.{true}
+use mathlib.Core.List.{List}
+use Prim.Native.Nat.{ℕ, _+_, _*_, _≤_}
+use native.Mathlib.Omega.{arith}
+use lib.ListN.{length, take}
+use lib.Seq.{length-take-le}
+use Rattle.shape.specs.declared.Shape.{Shape}
+use Rattle.shape.specs.Limits.{allowed}
+use Rattle.shape.specs.Blocks.{blocks}
+use Rattle.shape.specs.Laws.{Limits, limits, blocks-most}
+use Rattle.rules.specs.declared.lengths.Lengths.{Lengths}
+use Rattle.rules.specs.declared.Device.{Device}
+use Rattle.rules.specs.Numbers.{CELLS}
+use Rattle.rules.specs.Tables.{State, state, tableLengths}
+use Rattle.rules.specs.Room.{LengthFacts}
+use Rattle.run.specs.Listed.{Largest}
+
+-- the parts of this length of each table
+abbrev parts : Lengths → State → State
+parts l T = state (take (l .states) (T .states)) (take (l .owners) (T .owners)) (take (l .lists) (T .lists)) (take (l .calls) (T .calls)) (take (l .queue) (T .queue)) (T .device)
+
+-- the lengths of a shape's tables
+pub record Fits (s : Shape) (l : Lengths) (T : State) : Type 0 where
+  pub states : (l .states ≡ blocks s) × (l .states ≤ length (T .states))
+  pub owners : (l .owners ≡ blocks s) × (l .owners ≤ length (T .owners))
+  pub lists : (l .lists ≡ s .levels + blocks s) × (l .lists ≤ length (T .lists))
+  pub calls : (l .calls ≡ CELLS * s .threads) × (l .calls ≤ length (T .calls))
+  pub queue : (l .queue ≡ s .threads + 1) × (l .queue ≤ length (T .queue))
+
+pub fits : {s : Shape} {l : Lengths} {T : State} → allowed s ≡ true → l ≡ tableLengths s → Largest T → Fits s l T
+unfolding tableLengths
+fits {s} {l} {T} a e g = rw (e, a) (right (blocks-most s (limits s a)) (limits s a) g)
+  where
+    right : blocks s ≤ 5456 → Limits s → Largest T → Fits s (record { states = blocks s; owners = blocks s; lists = s .levels + blocks s; calls = CELLS * s .threads; queue = s .threads + 1 }) T
+    right m n w = record { states = (refl, omega arith); owners = (refl, omega arith); lists = (refl, omega arith); calls = (refl, omega arith); queue = (refl, omega arith) }
+
+pub fitting : {s : Shape} {l : Lengths} {T : State} → Fits s l T → LengthFacts s (parts l T)
+fitting {s} {l} {T} f =
+    record {
+      states = length-take-le (l .states) (T .states) (f .states .1) ∙ f .states .0;
+      owners = length-take-le (l .owners) (T .owners) (f .owners .1) ∙ f .owners .0;
+      lists = length-take-le (l .lists) (T .lists) (f .lists .1) ∙ f .lists .0;
+      calls = length-take-le (l .calls) (T .calls) (f .calls .1) ∙ f .calls .0;
+      queue = length-take-le (l .queue) (T .queue) (f .queue .1) ∙ f .queue .0;
+    }

@@ -1,0 +1,6 @@
+pub mod Named
+pub mod Written
+pub mod Going
+pub mod Heads
+pub mod Lends
+pub mod Titles

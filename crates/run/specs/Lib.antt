@@ -1,0 +1,3 @@
+pub mod GoesOn
+pub mod Sounds
+pub mod Listed

@@ -1,0 +1,127 @@
+// The first record of a script: its shape, and the tables that it needs.
+use crate::rest::run_rest;
+use rules::Answer;
+use rules::CELLS;
+use rules::Device;
+use rules::Refusal;
+use rules::script::Read;
+use rules::script::Record;
+use shape::Shape;
+ghost use Rattle.rules.specs.Tables.{state, fresh};
+ghost use Rattle.run.specs.Listed.{Titled, Headed, Largest, Lent, AllListed};
+
+// The lengths of the lists, the calls and the queue of the largest shape.
+const MOST_LISTS: usize = Shape::MOST_LEVELS + Shape::MOST_BLOCKS;
+
+const MOST_CALLS: usize = CELLS * Shape::MOST_THREADS;
+
+const MOST_QUEUE: usize = Shape::MOST_THREADS + 1;
+
+// Runs a script on lent tables of the lengths of its shape: made fresh, then the records behind the shape.
+fn run_built(
+    script: &[u8],
+    next: usize,
+    s: Shape,
+    out: &mut [u8],
+    end: usize,
+    states: &mut [u8],
+    owners: &mut [u8],
+    lists: &mut [u16],
+    calls: &mut [u64],
+    queue: &mut [u8],
+) -> usize
+    requires { ⌜ Lent (now script) next s (state (now states) (now owners) (now lists) (now calls) (now queue) (fresh s .device)) (now out) end ⌝ }
+    ensures { λ r. ⌜ AllListed (now (script .entry)) (now (out .entry)) end (now (out .exit)) r ⌝ }
+{
+    let tag = script[0];
+    fresh::make_fresh(s, states, owners, lists, calls, queue);
+    let first = lines::put_line(out, end, 0, tag, Answer::Built);
+    let d = Device {
+        clock: 0,
+        running: 0,
+    };
+    run_rest(
+        script,
+        next,
+        d,
+        s,
+        out,
+        first,
+        states,
+        owners,
+        lists,
+        calls,
+        queue,
+    )
+}
+
+// Runs a script whose first record is this shape, on the parts of the longest tables that the shape needs.
+fn run_shape(
+    script: &[u8],
+    next: usize,
+    s: Shape,
+    out: &mut [u8],
+    end: usize,
+    states: &mut [u8],
+    owners: &mut [u8],
+    lists: &mut [u16],
+    calls: &mut [u64],
+    queue: &mut [u8],
+) -> usize
+    requires { ⌜ Headed (now script) next s (now out) end × Largest (state (now states) (now owners) (now lists) (now calls) (now queue) (fresh s .device)) ⌝ }
+    ensures { λ r. ⌜ AllListed (now (script .entry)) (now (out .entry)) end (now (out .exit)) r ⌝ }
+{
+    if !s.allowed() {
+        let tag = script[0];
+        return lines::put_line(out, end, 0, tag, Answer::Refused(Refusal::ShapeNotAllowed));
+    }
+    let lengths = rules::lengths::lengths_of(s);
+    let blocks = lengths.states;
+    let owned = lengths.owners;
+    let listed = lengths.lists;
+    let called = lengths.calls;
+    let queued = lengths.queue;
+    run_built(
+        script,
+        next,
+        s,
+        out,
+        end,
+        &mut states[..blocks],
+        &mut owners[..owned],
+        &mut lists[..listed],
+        &mut calls[..called],
+        &mut queue[..queued],
+    )
+}
+
+// Runs a script on tables of its own. Its first record is bad, or the shape; no other is found there.
+pub fn run_first(script: &[u8], out: &mut [u8], end: usize) -> usize
+    requires { ⌜ Titled (now script) (now out) end ⌝ }
+    ensures { λ r. ⌜ AllListed (now (script .entry)) (now (out .entry)) end (now (out .exit)) r ⌝ }
+{
+    let Read::Record(step, next) = script::read_at(script, 0) else {
+        let tag = script[0];
+        return lines::put_line(out, end, 0, tag, Answer::Refused(Refusal::BadRecord(0)));
+    };
+    let Record::Pool(s) = step else {
+        return end;
+    };
+    let mut states = [0u8; Shape::MOST_BLOCKS];
+    let mut owners = [0u8; Shape::MOST_BLOCKS];
+    let mut lists = [0u16; MOST_LISTS];
+    let mut calls = [0u64; MOST_CALLS];
+    let mut queue = [0u8; MOST_QUEUE];
+    run_shape(
+        script,
+        next,
+        s,
+        out,
+        end,
+        &mut states,
+        &mut owners,
+        &mut lists,
+        &mut calls,
+        &mut queue,
+    )
+}

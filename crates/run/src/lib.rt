@@ -1,0 +1,37 @@
+// A whole script to its whole listing.
+pub mod first;
+pub mod rest;
+pub mod turns;
+
+use rules::Answer;
+use rules::Refusal;
+use rules::script::MOST_BYTES;
+ghost use mathlib.Core.Path.{_≡_};
+ghost use Prim.Native.Nat.{_≤_};
+ghost use lib.ListN.{length};
+ghost use lib.Seq.{sets};
+ghost use Rattle.rules.specs.Listing.{listing};
+
+// The most bytes that a listing takes.
+pub const LISTING_MOST: usize = 742784;
+
+// Writes the listing of a script, whatever its bytes, and answers how many bytes it has.
+pub fn list_script(script: &[u8], out: &mut [u8; LISTING_MOST]) -> usize
+    ensures { λ r. ⌜ (now (out .exit) ≡ sets (now (out .entry)) 0 (listing (now (script .entry)))) × (r ≡ length (listing (now (script .entry)))) × (r ≤ length (now (out .exit))) ⌝ }
+{
+    let end = lines::put_header(out);
+    let length = script.len();
+    if length == 0 {
+        return lines::put_line(out, end, 0, 0, Answer::Refused(Refusal::BadRecord(0)));
+    }
+    if MOST_BYTES < length {
+        return lines::put_line(
+            out,
+            end,
+            0,
+            0,
+            Answer::Refused(Refusal::BadRecord(MOST_BYTES)),
+        );
+    }
+    first::run_first(script, out, end)
+}
