@@ -20,7 +20,6 @@ use Rattle.rules.specs.Listing.{recordStep, stops, noShape}
 use Rattle.preserve.specs.Histories.{fresh-valid}
 use Rattle.script.specs.Reads.{read-next}
 use Rattle.run.specs.GoesOn.{GoesOn}
-use Rattle.run.specs.Sounds.{fresh-sound}
 use Rattle.run.specs.Listed.{Begun, Listed, AllListed, Titled, Headed}
 use Rattle.run.proofs.Written.{listed-bad, listed-stop, listed-record}
 use Rattle.run.proofs.Going.{Line, line-same}
@@ -35,7 +34,7 @@ refused s a = rw a
 
 built : (s : Shape) → allowed s ≡ true → outcome Built (fresh s) ≡ first s
 unfolding recordStep build
-built s a = rw (a, fresh-valid s a .0)
+built s a = rw (a, fresh-valid s a .lengths)
 
 built-goes-on : (s : Shape) → allowed s ≡ true → GoesOn (first s)
 built-goes-on s a = record { on = ap (λ (x : Outcome). stops (x .answer)) (sym (built s a)) }
@@ -63,7 +62,7 @@ module _ {xs : List ℕ} {next : ℕ} {s : Shape} {out : List ℕ} {end : ℕ} (
           behind = omega arith;
           counted = omega (arith, read-next xs 0 (Pool s) next (g .first));
           inside = read-next xs 0 (Pool s) next (g .first) .1;
-          sound = rw e (fresh-sound s a);
+          sound = rw e (fresh-valid s a);
           room = omega (arith, g .titled .room);
           long = omega (arith, line-same out end 0 (tagAt xs 0) Built p, g .titled .long);
         }

@@ -100,7 +100,7 @@ pub fn run_first(script: &[u8], out: &mut [u8], end: usize) -> usize
     requires { ⌜ Titled (now script) (now out) end ⌝ }
     ensures { λ r. ⌜ AllListed (now (script .entry)) (now (out .entry)) end (now (out .exit)) r ⌝ }
 {
-    let Read::Record(step, next) = script::read_at(script, 0) else {
+    let Read::Record(step, next) = reader::read(script, 0) else {
         let tag = script[0];
         return lines::put_line(out, end, 0, tag, Answer::Refused(Refusal::BadRecord(0)));
     };

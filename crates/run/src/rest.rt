@@ -31,7 +31,7 @@ pub fn run_rest(
     let mut end = start;
     while at < script.len() {
         let tag = script[at];
-        let Read::Record(step, next) = script::read_at(script, at) else {
+        let Read::Record(step, next) = reader::read(script, at) else {
             return lines::put_line(out, end, n, tag, Answer::Refused(Refusal::BadRecord(at)));
         };
         let ran = turn(step, device, s, states, owners, lists, calls, queue);

@@ -9,8 +9,8 @@ use borrow.Author.Needs.{needs}
 use Rattle.run.proofs.first.run_first.Statement.{statement}
 use Rattle.run.proofs.first.run_first.Tie as tie
 
-read-at-requires : tie.Need-read-at-requires
-read-at-requires c κs = search needs
+read-requires : tie.Need-read-requires
+read-requires c κs = search needs
 
 enum-known-step : tie.Need-enum-known-step
 enum-known-step c = search needs
@@ -28,13 +28,13 @@ same-length : tie.Need-same-length
 same-length c = search needs
 
 returns : tie.Need-returns
-returns c = listed-first (c .before .before .before .before .before .before .before .before .before .before .pre) (sym (c .before .before .before .before .before .before .before .read-at .ensures) ∙ c .before .before .before .before .before .enum-told .given .1) (c .before .before .put-line .ensures)
+returns c = listed-first (c .before .before .before .before .before .before .before .before .before .before .pre) (sym (c .before .before .before .before .before .before .before .read .ensures) ∙ c .before .before .before .before .before .enum-told .given .1) (c .before .before .put-line .ensures)
 
 enum-known-step-2 : tie.Need-enum-known-step-2
 enum-known-step-2 c = search needs
 
 returns-2 : tie.Need-returns-2
-returns-2 c = absurd (only-pool (c .before .before .step .given .0 .0) (read-first _ _ _ (sym (c .before .before .before .before .read-at .ensures) ∙ c .before .before .step .given .1)) (c .match2 .keys2))
+returns-2 c = absurd (only-pool (c .before .before .step .given .0 .0) (read-first _ _ _ (sym (c .before .before .before .before .read .ensures) ∙ c .before .before .step .given .1)) (c .match2 .keys2))
 
 slice-aggregate-run-shape : tie.Need-slice-aggregate-run-shape
 slice-aggregate-run-shape c = search needs
@@ -52,7 +52,7 @@ slice-aggregate-run-shape-5 : tie.Need-slice-aggregate-run-shape-5
 slice-aggregate-run-shape-5 c = search needs
 
 run-shape-requires : tie.Need-run-shape-requires
-run-shape-requires c κs = (heads (c .before .before .before .before .before .before .before .before .before .before .before .before .before .before .before .pre) (sym (c .before .before .before .before .before .before .before .before .before .before .before .before .read-at .ensures) ∙ c .before .before .before .before .before .before .before .before .before .before .step .given .1) (c .before .before .before .before .before .before .before .step2 .given .1), record { states = le-refl 5456; owners = le-refl 5456; lists = le-refl 5461; calls = le-refl 48; queue = le-refl 9 })
+run-shape-requires c κs = (heads (c .before .before .before .before .before .before .before .before .before .before .before .before .before .before .before .pre) (sym (c .before .before .before .before .before .before .before .before .before .before .before .before .read .ensures) ∙ c .before .before .before .before .before .before .before .before .before .before .step .given .1) (c .before .before .before .before .before .before .before .step2 .given .1), record { states = le-refl 5456; owners = le-refl 5456; lists = le-refl 5461; calls = le-refl 48; queue = le-refl 9 })
 
 same-length-2 : tie.Need-same-length-2
 same-length-2 c = search needs
@@ -64,7 +64,7 @@ pub run-first-spec : {M : Type 1} → statement M
 run-first-spec =
     tie.close
     (tie.spec
-    read-at-requires
+    read-requires
     enum-known-step
     enum-told
     shared-slice-read-tag
