@@ -4,8 +4,6 @@ use mathlib.Core.List.{List, [], _∷_}
 use Prim.Native.Nat.{ℕ}
 use lib.IntN.{ℤ}
 use Rattle.shape.specs.declared.Shape.{Shape}
-use Rattle.rules.specs.declared.Answer.{Answer}
-use Rattle.rules.specs.Answers.{number, detail}
 use Rattle.rules.specs.Tables.{State}
 use Rattle.rules.specs.Steps.{Outcome, outcome}
 use Rattle.rules.specs.Calls.{build, ask, goOn, give, switch, tick}
@@ -35,13 +33,3 @@ stepOn s T Whole = outcome (whole s T) T
 unfoldable pub runSteps : Shape → State → List Step → State
 runSteps s T [] = T
 runSteps s T (x ∷ xs) = runSteps s (stepOn s T x .after) xs
-
--- what each step of a history answers
-unfoldable pub answersOf : Shape → State → List Step → List Answer
-answersOf s T [] = []
-answersOf s T (x ∷ xs) = stepOn s T x .answer ∷ answersOf s (stepOn s T x .after) xs
-
--- the answers as the listing has them: each one's number and detail
-unfoldable pub listing : List Answer → List (ℕ × ℕ)
-listing [] = []
-listing (a ∷ rest) = (number a, detail a) ∷ listing rest

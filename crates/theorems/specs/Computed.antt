@@ -16,11 +16,11 @@ use Rattle.rules.specs.Valid.{statesKnown, listEnds, queueEnds, fieldsUsed, top
 use Rattle.rules.specs.Steps.{deepest, noRoom, lookAt, look, takeFrom, takeStep, splitStep, grantStep, divideStep, merges, mergeStep, wake, settleStep, releaseStep, goOnStep}
 use Rattle.rules.specs.Calls.{build, askedCall, askStep, ask, goOn, idOutside, giveBlock, giveStep, give, switchStep, switch, due, tickStep, tick}
 use Rattle.rules.specs.Questions.{isWhole, whole}
-use Rattle.history.specs.History.{Step, stepOn, runSteps, answersOf, listing}
+use Rattle.history.specs.History.{Step, stepOn, runSteps}
 
 -- where this unfolds every rule does, so that what stands beside it computes
 unfoldable pub everyRule : Bool
-unfolding every tally pad times keep upFrom parts unit allowed size count levelFrom levelFor above blocks longest ticks wait lengths freeList putList queueOf putQueue callOf putCall fresh statesKnown listEnds queueEnds fieldsUsed topsExist partsExist deepestWhole buddiesMerged freeListed ownersKnown handInside oneToOne targetKept waitersQueued runningReady sizeKept foundKept deadlineKept mayWait callKept callsKept valid deepest noRoom lookAt look takeFrom takeStep splitStep grantStep divideStep merges mergeStep wake settleStep releaseStep goOnStep build askedCall askStep ask goOn idOutside giveBlock giveStep give switchStep switch due tickStep tick isWhole whole stepOn runSteps answersOf listing
+unfolding every tally pad times keep upFrom parts unit allowed size count levelFrom levelFor above blocks longest ticks wait lengths freeList putList queueOf putQueue callOf putCall fresh statesKnown listEnds queueEnds fieldsUsed topsExist partsExist deepestWhole buddiesMerged freeListed ownersKnown handInside oneToOne targetKept waitersQueued runningReady sizeKept foundKept deadlineKept mayWait callKept callsKept valid deepest noRoom lookAt look takeFrom takeStep splitStep grantStep divideStep merges mergeStep wake settleStep releaseStep goOnStep build askedCall askStep ask goOn idOutside giveBlock giveStep give switchStep switch due tickStep tick isWhole whole stepOn runSteps
 everyRule = true
 
 -- fresh tables after a history

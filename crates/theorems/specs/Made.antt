@@ -5,15 +5,25 @@ use mathlib.Core.Bool.{Bool, true, false, _&&_, _||_, Bool·beq, false≢true}
 use mathlib.Core.Logic.{_⊎_, inl, inr}
 use mathlib.Core.List.{List, [], _∷_}
 use Prim.Native.Nat.{ℕ, _<_}
+use lib.IntN.{pos}
 use lib.ListN.{getD, take}
 use lib.Dec.{eqb}
 use borrow.Author.Tests.{eqb-true}
 use Rattle.laws.specs.Tests.{every, every-at, both, either}
+use Rattle.shape.specs.declared.Shape.{Shape}
 use Rattle.rules.specs.Moves.{mayMove}
 use Rattle.history.specs.Given.{alike}
-use Rattle.history.specs.History.{Step, Whole, stepOn}
+use Rattle.history.specs.History.{Step, Build, Ask, GoOn, Give, Switch, Whole, stepOn}
 use Rattle.theorems.specs.Computed.{everyRule, after}
-use Rattle.theorems.specs.Script.{scriptShape, script}
+
+-- the shape and the steps of the paper's script
+abbrev pub scriptShape : Shape
+scriptShape = record { pool = 1; threads = 2; levels = 2; tops = 1; «top_size» = 64 }
+
+abbrev pub script : List Step
+script =
+    Build ∷ Switch 0 ∷ Ask 0 16 (pos 0) ∷ GoOn 0 ∷ GoOn 0 ∷ GoOn 0 ∷ GoOn 0 ∷ Whole
+    ∷ Give 0 257 ∷ GoOn 0 ∷ GoOn 0 ∷ Whole ∷ []
 
 -- a move, the place of the block that makes it, and the record of the paper's script at which it does
 pub record Row : Type 0 where
