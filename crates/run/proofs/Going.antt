@@ -3,7 +3,7 @@
 use mathlib.Core.Path.{_≡_, refl, sym, _∙_, ap}
 use mathlib.Core.Bool.{false}
 use mathlib.Core.List.{List}
-use Prim.Native.Nat.{ℕ, _+_, _≤_, _<_}
+use Prim.Native.Nat.{ℕ, _+_, _-_, _≤_, _<_}
 use native.Mathlib.Omega.{arith}
 use lib.ListN.{length}
 use lib.Seq.{sets, length-sets}
@@ -27,23 +27,13 @@ use Rattle.run.specs.Sounds.{record-sound, record-goes-on}
 use Rattle.run.specs.Listed.{Begun, Listed}
 use Rattle.run.proofs.Written.{same-shape, listed-none, listed-bad, listed-record}
 
--- sound tables of one shape have the same lengths
+-- tables of the same lengths
 pub record SameLengths (T U : State) : Type 0 where
   pub states : length (T .states) ≡ length (U .states)
   pub owners : length (T .owners) ≡ length (U .owners)
   pub lists : length (T .lists) ≡ length (U .lists)
   pub calls : length (T .calls) ≡ length (U .calls)
   pub queue : length (T .queue) ≡ length (U .queue)
-
-pub same-lengths : {s : Shape} {T U : State} → Sound s T → Sound s U → SameLengths T U
-same-lengths f g =
-    record {
-      states = right-lengths f .states ∙ sym (right-lengths g .states);
-      owners = right-lengths f .owners ∙ sym (right-lengths g .owners);
-      lists = right-lengths f .lists ∙ sym (right-lengths g .lists);
-      calls = right-lengths f .calls ∙ sym (right-lengths g .calls);
-      queue = right-lengths f .queue ∙ sym (right-lengths g .queue);
-    }
 
 -- a line is stored, and takes no more than its room
 abbrev pub Line : List ℕ → ℕ → ℕ → ℕ → Answer → ℕ → List ℕ → Type 0
@@ -57,6 +47,7 @@ line-same out end n tag a p = ap length (p .1) ∙ length-sets out end (line n t
 
 -- the run from an offset and tables on has come to another offset and other tables
 pub record Going (xs : List ℕ) (s : Shape) (from : ℕ) (S : State) (first : List ℕ) (start n at : ℕ) (T : State) (out : List ℕ) (end : ℕ) : Type 0 where
+  pub began : Sound s S
   pub here : Begun xs n at s T out end
   pub rest :
       (after : List ℕ) (last : ℕ) → Listed xs n at s T out end after last → Listed xs 1 from s S first start after last
@@ -65,11 +56,24 @@ pub record Going (xs : List ℕ) (s : Shape) (from : ℕ) (S : State) (first : L
 pub starts :
     {xs : List ℕ} {s : Shape} {from : ℕ} {S : State} {first : List ℕ} {start : ℕ} → Begun xs 1 from s S first start →
     Going xs s from S first start 1 from S first start
-starts b = record { here = b; rest = λ after last l. l; same = refl }
+starts b = record { began = b .sound; here = b; rest = λ after last l. l; same = refl }
 
 module _ {xs : List ℕ} {s : Shape} {from : ℕ} {S : State} {first : List ℕ} {start n at : ℕ} {T : State} {out : List ℕ} {end : ℕ} (g : Going xs s from S first start n at T out end) where
   here : Begun xs n at s T out end
   here = g .here
+
+  -- the tables keep their lengths, which are the shape's
+  pub same-lengths : SameLengths T S
+  same-lengths =
+      let now = right-lengths (here .sound) in
+      let then = right-lengths (g .began) in
+      record {
+        states = now .states ∙ sym (then .states);
+        owners = now .owners ∙ sym (then .owners);
+        lists = now .lists ∙ sym (then .lists);
+        calls = now .calls ∙ sym (then .calls);
+        queue = now .queue ∙ sym (then .queue);
+      }
 
   -- the run ends at the script's end
   pub ends : length xs ≤ at → Listed xs 1 from s S first start out end
@@ -91,12 +95,17 @@ module _ {xs : List ℕ} {s : Shape} {from : ℕ} {S : State} {first : List ℕ}
       pub no-shape : isPool r ≡ false
       no-shape = sym (fails (isPool r) (λ p. omega (arith, read-pool xs at r next e p, here)))
 
-      -- and behind it the run goes on
+      -- fewer bytes are left behind it
+      pub falls : length xs - next < length xs - at
+      falls = omega (arith, read-next xs at r next e)
+
+      -- and there the run goes on
       pub goes-on :
           {a : Answer} {U : State} {middle : ℕ} {more : List ℕ} → outcome a U ≡ recordStep s T r →
           Line out end n (tagAt xs at) a middle more → Going xs s from S first start (n + 1) next U more middle
       goes-on {a} o p =
           record {
+            began = g .began;
             here =
                 record {
                   short = here .short;

@@ -2,8 +2,7 @@
 -- Assumes nothing.
 use mathlib.Core.Path.{_≡_, refl, _∙_}
 use mathlib.Core.Bool.{true}
-use mathlib.Core.List.{List}
-use Prim.Native.Nat.{ℕ, _+_, _*_, _≤_}
+use Prim.Native.Nat.{_+_, _*_, _≤_}
 use native.Mathlib.Omega.{arith}
 use lib.ListN.{length, take}
 use lib.Seq.{length-take-le}
@@ -12,7 +11,6 @@ use Rattle.shape.specs.Limits.{allowed}
 use Rattle.shape.specs.Blocks.{blocks}
 use Rattle.shape.specs.Laws.{Limits, limits, blocks-most}
 use Rattle.rules.specs.declared.lengths.Lengths.{Lengths}
-use Rattle.rules.specs.declared.Device.{Device}
 use Rattle.rules.specs.Numbers.{CELLS}
 use Rattle.rules.specs.Tables.{State, state, tableLengths}
 use Rattle.rules.specs.Room.{LengthFacts}
@@ -20,9 +18,13 @@ use Rattle.run.specs.Listed.{Largest}
 
 -- the parts of this length of each table
 abbrev parts : Lengths → State → State
-parts l T = state (take (l .states) (T .states)) (take (l .owners) (T .owners)) (take (l .lists) (T .lists)) (take (l .calls) (T .calls)) (take (l .queue) (T .queue)) (T .device)
+parts l T =
+    state (take (l .states) (T .states)) (take (l .owners) (T .owners)) (take (l .lists) (T .lists))
+    (take (l .calls) (T .calls))
+    (take (l .queue) (T .queue))
+    (T .device)
 
--- the lengths of a shape's tables
+-- these are the lengths of the shape's tables, and no longer than the tables
 pub record Fits (s : Shape) (l : Lengths) (T : State) : Type 0 where
   pub states : (l .states ≡ blocks s) × (l .states ≤ length (T .states))
   pub owners : (l .owners ≡ blocks s) × (l .owners ≤ length (T .owners))
@@ -32,10 +34,17 @@ pub record Fits (s : Shape) (l : Lengths) (T : State) : Type 0 where
 
 pub fits : {s : Shape} {l : Lengths} {T : State} → allowed s ≡ true → l ≡ tableLengths s → Largest T → Fits s l T
 unfolding tableLengths
-fits {s} {l} {T} a e g = rw (e, a) (right (blocks-most s (limits s a)) (limits s a) g)
-  where
-    right : blocks s ≤ 5456 → Limits s → Largest T → Fits s (record { states = blocks s; owners = blocks s; lists = s .levels + blocks s; calls = CELLS * s .threads; queue = s .threads + 1 }) T
-    right m n w = record { states = (refl, omega arith); owners = (refl, omega arith); lists = (refl, omega arith); calls = (refl, omega arith); queue = (refl, omega arith) }
+fits {s} a e g =
+    let few : blocks s ≤ 5456 = blocks-most s (limits s a) in
+    let small : Limits s = limits s a in
+    rw (e, a)
+    (record {
+      states = (refl, omega arith);
+      owners = (refl, omega arith);
+      lists = (refl, omega arith);
+      calls = (refl, omega arith);
+      queue = (refl, omega arith);
+    })
 
 pub fitting : {s : Shape} {l : Lengths} {T : State} → Fits s l T → LengthFacts s (parts l T)
 fitting {s} {l} {T} f =

@@ -1,18 +1,20 @@
--- A record that was found names its step: what the call promises is what the record's step is.
+-- A record that was found names its step: what the call promises of sound tables is what the record's step is.
 -- Assumes nothing.
 use mathlib.Core.Path.{_≡_, sym, _∙_, ap}
 use mathlib.Core.Bool.{true, false, true≢false, false≢true}
-use mathlib.Core.List.{[], _∷_}
+use mathlib.Core.List.{List, [], _∷_}
 use Prim.Native.Nat.{ℕ}
 use types.Run.{OneOf, miss}
 use denote.Enum.Declared.{tagOf}
-use Rattle.rules.proofs.script.Record.{the-type}
 use Rattle.shape.specs.declared.Shape.{Shape}
 use Rattle.shape.specs.declared.time.Millis.{Millis}
+use Rattle.rules.specs.declared.Device.{Device}
 use Rattle.rules.specs.declared.Answer.{Answer}
 use Rattle.rules.specs.declared.script.Record.{Record}
 use Rattle.rules.specs.declared.script.Record.the-variants.{Pool, Ask, ShortAsk, GoOn, Give, Switch, Tick, Whole}
-use Rattle.rules.specs.Tables.{State}
+use Rattle.rules.proofs.script.Record.{the-type}
+use Rattle.rules.specs.Tables.{State, state}
+use Rattle.rules.specs.Facts.{Sound}
 use Rattle.rules.specs.Steps.{Outcome, outcome}
 use Rattle.rules.specs.Calls.{ask, goOn, give, switch, tick}
 use Rattle.rules.specs.Questions.{whole}
@@ -35,32 +37,62 @@ only-pool (Switch t) e h = false≢true e
 only-pool Tick e h = false≢true e
 only-pool Whole e h = false≢true e
 
-module _ (s : Shape) (T : State) {r : Record} {o : Outcome} where
-  pub asks : {t size : ℕ} {m : Millis} → r ≡ Ask t size m → o ≡ ask s T t size m → o ≡ recordStep s T r
-  unfolding recordStep
-  asks e f = rw e f
+-- what ask promises of the calls alone, whatever the other tables
+abbrev Asks : Shape → State → ℕ → ℕ → Millis → Answer → List ℕ → Type 0
+Asks s T t size m a calls =
+    (states owners lists queue : List ℕ) → Sound s (state states owners lists (T .calls) queue (T .device)) →
+    outcome a (state states owners lists calls queue (T .device))
+    ≡ ask s (state states owners lists (T .calls) queue (T .device)) t size m
 
-  pub asks-shortly : {t size : ℕ} → r ≡ ShortAsk t size → o ≡ ask s T t size shortWait → o ≡ recordStep s T r
+module _ {s : Shape} {T : State} (g : Sound s T) {r : Record} where
+  pub asks :
+      {t size : ℕ} {m : Millis} {a : Answer} {calls : List ℕ} → r ≡ Ask t size m → Asks s T t size m a calls →
+      outcome a (state (T .states) (T .owners) (T .lists) calls (T .queue) (T .device)) ≡ recordStep s T r
   unfolding recordStep
-  asks-shortly e f = rw e f
+  asks e f = rw e (f (T .states) (T .owners) (T .lists) (T .queue) g)
 
-  pub goes-on : {t : ℕ} → r ≡ GoOn t → o ≡ goOn s T t → o ≡ recordStep s T r
+  pub asks-shortly :
+      {t size : ℕ} {a : Answer} {calls : List ℕ} → r ≡ ShortAsk t size → Asks s T t size shortWait a calls →
+      outcome a (state (T .states) (T .owners) (T .lists) calls (T .queue) (T .device)) ≡ recordStep s T r
+  unfolding recordStep
+  asks-shortly e f = rw e (f (T .states) (T .owners) (T .lists) (T .queue) g)
+
+  pub goes-on : {t : ℕ} {o : Outcome} → r ≡ GoOn t → o ≡ goOn s T t → o ≡ recordStep s T r
   unfolding recordStep
   goes-on e f = rw e f
 
-  pub gives : {t i : ℕ} → r ≡ Give t i → o ≡ give s T t i → o ≡ recordStep s T r
+  pub gives :
+      {t i : ℕ} {a : Answer} {states owners calls : List ℕ} → r ≡ Give t i →
+      ((lists queue : List ℕ) → Sound s (state (T .states) (T .owners) lists (T .calls) queue (T .device)) →
+      outcome a (state states owners lists calls queue (T .device))
+      ≡ give s (state (T .states) (T .owners) lists (T .calls) queue (T .device)) t i) →
+      outcome a (state states owners (T .lists) calls (T .queue) (T .device)) ≡ recordStep s T r
   unfolding recordStep
-  gives e f = rw e f
+  gives e f = rw e (f (T .lists) (T .queue) g)
 
-  pub switches : {t : ℕ} → r ≡ Switch t → o ≡ switch s T t → o ≡ recordStep s T r
+  pub switches :
+      {t : ℕ} {a : Answer} {d : Device} → r ≡ Switch t →
+      ((states owners lists queue : List ℕ) → Sound s (state states owners lists (T .calls) queue (T .device)) →
+      outcome a (state states owners lists (T .calls) queue d)
+      ≡ switch s (state states owners lists (T .calls) queue (T .device)) t) →
+      outcome a (state (T .states) (T .owners) (T .lists) (T .calls) (T .queue) d) ≡ recordStep s T r
   unfolding recordStep
-  switches e f = rw e f
+  switches e f = rw e (f (T .states) (T .owners) (T .lists) (T .queue) g)
 
-  pub ticks : r ≡ Tick → o ≡ tick s T → o ≡ recordStep s T r
+  pub ticks :
+      {a : Answer} {calls queue : List ℕ} {d : Device} → r ≡ Tick →
+      ((states owners lists : List ℕ) → Sound s (state states owners lists (T .calls) (T .queue) (T .device)) →
+      outcome a (state states owners lists calls queue d)
+      ≡ tick s (state states owners lists (T .calls) (T .queue) (T .device))) →
+      outcome a (state (T .states) (T .owners) (T .lists) calls queue d) ≡ recordStep s T r
   unfolding recordStep
-  ticks e f = rw e f
+  ticks e f = rw e (f (T .states) (T .owners) (T .lists) g)
 
--- whether all is whole alters nothing
-pub wholly : (s : Shape) (T : State) {r : Record} {a : Answer} → r ≡ Whole → a ≡ whole s T → outcome a T ≡ recordStep s T r
-unfolding recordStep
-wholly s T e f = rw (e, f)
+  -- whether all is whole alters nothing
+  pub wholly :
+      {a : Answer} → r ≡ Whole →
+      ((owners lists queue : List ℕ) (d : Device) → Sound s (state (T .states) owners lists (T .calls) queue d) →
+      a ≡ whole s (state (T .states) owners lists (T .calls) queue d)) →
+      outcome a T ≡ recordStep s T r
+  unfolding recordStep
+  wholly e f = rw (e, f (T .owners) (T .lists) (T .queue) (T .device) g)

@@ -3,11 +3,9 @@
 use mathlib.Core.Path.{_≡_, refl, sym, _∙_, ap}
 use mathlib.Core.Bool.{true, false, true≢false}
 use mathlib.Core.List.{List, [], _++_, append-nil}
-use Prim.Native.Nat.{ℕ, zero, suc, _+_, _*_, _-_, _≤_, _<_}
+use Prim.Native.Nat.{ℕ, zero, suc, _+_, _-_, _≤_, _<_}
 use native.Mathlib.Omega.{arith}
 use lib.ListN.{length}
-use lib.Seq.{sets, length-sets}
-use lib.Dec.{leb}
 use borrow.Author.Tests.{le-leb, lt-leb}
 use Rattle.laws.specs.Sets.{Put, put-behind}
 use Rattle.shape.specs.declared.Shape.{Shape}
@@ -18,16 +16,13 @@ use Rattle.rules.specs.declared.script.Record.{Record}
 use Rattle.rules.specs.declared.script.Record.the-variants.{Pool, Ask, ShortAsk, GoOn, Give, Switch, Tick, Whole}
 use Rattle.rules.specs.declared.script.Read.{Read}
 use Rattle.rules.specs.Tables.{State}
-use Rattle.rules.specs.Facts.{Sound}
 use Rattle.rules.specs.Steps.{Outcome, outcome}
 use Rattle.rules.specs.Script.{tagAt, readAt}
 use Rattle.rules.specs.Listing.{recordStep, shapeAfter, line, stops, readLines, lines}
-use Rattle.lines.specs.Room.{LINE-MOST}
 use Rattle.script.specs.Forms.{isPool}
-use Rattle.script.specs.Reads.{read-next, read-pool}
+use Rattle.script.specs.Reads.{read-next}
 use Rattle.run.specs.GoesOn.{GoesOn}
-use Rattle.run.specs.Sounds.{record-sound, record-goes-on}
-use Rattle.run.specs.Listed.{LISTING-MOST, Begun, Listed}
+use Rattle.run.specs.Listed.{LISTING-MOST, Listed}
 
 -- no record but a shape's changes the shape
 pub same-shape : (s : Shape) (r : Record) → isPool r ≡ false → shapeAfter s r ≡ s

@@ -3,7 +3,7 @@
 use mathlib.Core.Path.{_≡_}
 use mathlib.Core.Bool.{true}
 use mathlib.Core.List.{List}
-use Prim.Native.Nat.{ℕ, _+_, _*_, _≤_, _<_}
+use Prim.Native.Nat.{ℕ, _+_, _*_, _/_, _≤_, _<_}
 use lib.ListN.{length}
 use Rattle.laws.specs.Sets.{Put}
 use Rattle.shape.specs.declared.Shape.{Shape}
@@ -18,16 +18,16 @@ use Rattle.rules.specs.Script.{readAt}
 use Rattle.rules.specs.Listing.{lines, noShape}
 use Rattle.lines.specs.Room.{LINE-MOST}
 
--- the bytes of the header, and the least of a record
+-- the bytes of the header, and the fewest of a record
 abbrev pub HEADER-BYTES : ℕ
 HEADER-BYTES = 20
 
 abbrev pub RECORD-LEAST : ℕ
 RECORD-LEAST = 3
 
--- the most bytes that a listing takes: the header, and a line for each of the records that a script has room for and one that is cut
+-- the most bytes that a listing takes: the header, and a line for each record that the longest script has room for and for one that is cut
 abbrev pub LISTING-MOST : ℕ
-LISTING-MOST = 742784
+LISTING-MOST = HEADER-BYTES + LINE-MOST * (MOST-BYTES / RECORD-LEAST + 1)
 
 -- what running the records from an offset on needs: they stand behind the shape, the tables are sound, the lines have room
 pub record Begun (xs : List ℕ) (n at : ℕ) (s : Shape) (T : State) (out : List ℕ) (end : ℕ) : Type 0 where

@@ -3,6 +3,7 @@ pub mod first;
 pub mod rest;
 pub mod turns;
 
+use lines::LINE_MOST;
 use rules::Answer;
 use rules::Refusal;
 use rules::script::MOST_BYTES;
@@ -12,8 +13,13 @@ ghost use lib.ListN.{length};
 ghost use lib.Seq.{sets};
 ghost use Rattle.rules.specs.Listing.{listing};
 
-// The most bytes that a listing takes.
-pub const LISTING_MOST: usize = 742784;
+// The bytes of the header, and the fewest of a record.
+const HEADER_BYTES: usize = 20;
+
+const RECORD_LEAST: usize = 3;
+
+// The most bytes that a listing takes: the header, and a line for each record that the longest script has room for and for one that is cut.
+pub const LISTING_MOST: usize = HEADER_BYTES + LINE_MOST * (MOST_BYTES / RECORD_LEAST + 1);
 
 // Writes the listing of a script, whatever its bytes, and answers how many bytes it has.
 pub fn list_script(script: &[u8], out: &mut [u8; LISTING_MOST]) -> usize

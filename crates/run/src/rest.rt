@@ -8,7 +8,8 @@ use shape::Shape;
 ghost use Rattle.rules.specs.Tables.{state};
 ghost use Rattle.run.specs.Listed.{Begun, Listed};
 
-// Runs the records from an offset on, one after the other, and writes the line of each; a bad one is the last. Answers the place behind the lines.
+// Runs the records from an offset on, one after the other, and writes the line of each; a bad one is the last.
+// Answers the place behind the lines.
 pub fn run_rest(
     script: &[u8],
     from: usize,

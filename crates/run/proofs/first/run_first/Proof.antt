@@ -1,6 +1,6 @@
 -- `run::first::run_first` meets its contract: the first record is bad or a shape, and the tables are as long as any shape's.
 -- Assumes nothing.
-use mathlib.Core.Path.{_≡_, sym, _∙_}
+use mathlib.Core.Path.{sym, _∙_}
 use native.Mathlib.Nat.{le-refl}
 use Rattle.script.specs.Reads.{read-first}
 use Rattle.run.proofs.Named.{only-pool}

@@ -1,14 +1,11 @@
 -- `run::rest::run_rest` meets its contract: each turn writes its record's line, and with the lines of the rest all are written.
 -- Assumes nothing.
-use mathlib.Core.Path.{_≡_, sym, _∙_, ap}
+use mathlib.Core.Path.{sym, _∙_, ap}
 use Prim.Native.Nat.{_-_}
 use lib.ListN.{length}
 use lib.Seq.{length-sets}
-use denote.Ref.{now}
-use Rattle.rules.specs.declared.Answer.{Answer}
 use Rattle.rules.specs.Tables.{state}
-use Rattle.script.specs.Reads.{read-next}
-use Rattle.run.proofs.Going.{same-lengths, Going, starts, line-room, ends, ends-bad, no-shape, goes-on}
+use Rattle.run.proofs.Going.{same-lengths, Going, starts, line-room, ends, ends-bad, no-shape, falls, goes-on}
 use Rattle.run.proofs.rest.run_rest.Statement.{statement}
 use Rattle.run.proofs.rest.run_rest.Tie as tie
 use native.Mathlib.Omega.{arith}
@@ -43,19 +40,19 @@ same-length : tie.Need-same-length Inv-loop μ-loop
 same-length c = ap length (c .before .before .put-line .ensures .1) ∙ simp length-sets (c .before .before .before .before .before .before .before .before .before .loop .inv .same)
 
 same-length-2 : tie.Need-same-length-2 Inv-loop μ-loop
-same-length-2 c = same-lengths (c .before .before .before .before .before .before .before .before .before .loop .inv .here .sound) (c .before .before .before .before .before .before .before .before .before .before .before .before .before .before .before .before .before .pre .sound) .states
+same-length-2 c = same-lengths (c .before .before .before .before .before .before .before .before .before .loop .inv) .states
 
 same-length-3 : tie.Need-same-length-3 Inv-loop μ-loop
-same-length-3 c = same-lengths (c .before .before .before .before .before .before .before .before .before .loop .inv .here .sound) (c .before .before .before .before .before .before .before .before .before .before .before .before .before .before .before .before .before .pre .sound) .owners
+same-length-3 c = same-lengths (c .before .before .before .before .before .before .before .before .before .loop .inv) .owners
 
 same-length-4 : tie.Need-same-length-4 Inv-loop μ-loop
-same-length-4 c = same-lengths (c .before .before .before .before .before .before .before .before .before .loop .inv .here .sound) (c .before .before .before .before .before .before .before .before .before .before .before .before .before .before .before .before .before .pre .sound) .lists
+same-length-4 c = same-lengths (c .before .before .before .before .before .before .before .before .before .loop .inv) .lists
 
 same-length-5 : tie.Need-same-length-5 Inv-loop μ-loop
-same-length-5 c = same-lengths (c .before .before .before .before .before .before .before .before .before .loop .inv .here .sound) (c .before .before .before .before .before .before .before .before .before .before .before .before .before .before .before .before .before .pre .sound) .calls
+same-length-5 c = same-lengths (c .before .before .before .before .before .before .before .before .before .loop .inv) .calls
 
 same-length-6 : tie.Need-same-length-6 Inv-loop μ-loop
-same-length-6 c = same-lengths (c .before .before .before .before .before .before .before .before .before .loop .inv .here .sound) (c .before .before .before .before .before .before .before .before .before .before .before .before .before .before .before .before .before .pre .sound) .queue
+same-length-6 c = same-lengths (c .before .before .before .before .before .before .before .before .before .loop .inv) .queue
 
 returns : tie.Need-returns Inv-loop μ-loop
 returns c = ends-bad (c .before .before .before .before .before .before .before .before .before .loop .inv) (omega arith) (sym (c .before .before .before .before .before .before .read .ensures) ∙ c .before .before .before .before .enum-told .given .1) (c .before .before .put-line .ensures)
@@ -67,10 +64,10 @@ put-line-requires-2 : tie.Need-put-line-requires-2 Inv-loop μ-loop
 put-line-requires-2 c κs = line-room (c .before .before .before .before .before .before .before .before .before .before .before .before .before .before .before .before .before .before .before .before .before .before .before .loop .inv) (omega arith)
 
 add-n : tie.Need-add-n Inv-loop μ-loop
-add-n c = omega (arith, c .before .before .before .before .before .before .before .before .before .before .before .before .before .before .before .before .before .before .before .before .before .before .before .before .before .before .before .loop .inv .here .counted, c .before .before .before .before .before .before .before .before .before .before .before .before .before .before .before .before .before .before .before .before .before .before .before .before .before .before .before .loop .inv .here .short)
+add-n c = omega (arith, c .before .before .before .before .before .before .before .before .before .before .before .before .before .before .before .before .before .before .before .before .before .before .before .before .before .before .before .loop .inv .here)
 
 loop-less : tie.Need-loop-less Inv-loop μ-loop
-loop-less c = omega (arith, read-next _ _ _ _ (sym (c .before .before .before .before .before .before .before .before .before .before .before .before .before .before .before .before .before .before .before .before .before .before .before .before .read .ensures) ∙ c .before .before .before .before .before .before .before .before .before .before .before .before .before .before .before .before .before .before .before .before .before .before .step .given .1))
+loop-less c = falls (c .before .before .before .before .before .before .before .before .before .before .before .before .before .before .before .before .before .before .before .before .before .before .before .before .before .before .before .loop .inv) (omega arith) (sym (c .before .before .before .before .before .before .before .before .before .before .before .before .before .before .before .before .before .before .before .before .before .before .before .before .read .ensures) ∙ c .before .before .before .before .before .before .before .before .before .before .before .before .before .before .before .before .before .before .before .before .before .before .step .given .1)
 
 loop-again : tie.Need-loop-again Inv-loop μ-loop
 loop-again c = goes-on (c .before .before .before .before .before .before .before .before .before .before .before .before .before .before .before .before .before .before .before .before .before .before .before .before .before .before .before .loop .inv) (omega arith) (sym (c .before .before .before .before .before .before .before .before .before .before .before .before .before .before .before .before .before .before .before .before .before .before .before .before .read .ensures) ∙ c .before .before .before .before .before .before .before .before .before .before .before .before .before .before .before .before .before .before .before .before .before .before .step .given .1) (c .before .before .before .before .before .before .before .before .before .before .before .before .before .before .before .turn .ensures) (c .before .before .before .put-line2 .ensures)
@@ -79,19 +76,19 @@ same-length-7 : tie.Need-same-length-7 Inv-loop μ-loop
 same-length-7 c = c .before .loop .inv .same
 
 same-length-8 : tie.Need-same-length-8 Inv-loop μ-loop
-same-length-8 c = same-lengths (c .before .loop .inv .here .sound) (c .before .before .before .before .before .before .before .before .before .pre .sound) .states
+same-length-8 c = same-lengths (c .before .loop .inv) .states
 
 same-length-9 : tie.Need-same-length-9 Inv-loop μ-loop
-same-length-9 c = same-lengths (c .before .loop .inv .here .sound) (c .before .before .before .before .before .before .before .before .before .pre .sound) .owners
+same-length-9 c = same-lengths (c .before .loop .inv) .owners
 
 same-length-10 : tie.Need-same-length-10 Inv-loop μ-loop
-same-length-10 c = same-lengths (c .before .loop .inv .here .sound) (c .before .before .before .before .before .before .before .before .before .pre .sound) .lists
+same-length-10 c = same-lengths (c .before .loop .inv) .lists
 
 same-length-11 : tie.Need-same-length-11 Inv-loop μ-loop
-same-length-11 c = same-lengths (c .before .loop .inv .here .sound) (c .before .before .before .before .before .before .before .before .before .pre .sound) .calls
+same-length-11 c = same-lengths (c .before .loop .inv) .calls
 
 same-length-12 : tie.Need-same-length-12 Inv-loop μ-loop
-same-length-12 c = same-lengths (c .before .loop .inv .here .sound) (c .before .before .before .before .before .before .before .before .before .pre .sound) .queue
+same-length-12 c = same-lengths (c .before .loop .inv) .queue
 
 returns-2 : tie.Need-returns-2 Inv-loop μ-loop
 returns-2 c = ends (c .before .loop .inv) (omega arith)

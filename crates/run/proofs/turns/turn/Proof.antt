@@ -1,15 +1,10 @@
 -- `run::turns::turn` meets its contract: sound tables give each call what it needs, and the record that was found names the call.
 -- Assumes nothing.
-use denote.Ref.{now}
-use Rattle.rules.specs.Tables.{State, state}
 use Rattle.ready.specs.Sound.{calls-length, give-ready, switch-ready, tick-ready, whole-ready}
 use Rattle.run.proofs.Named.{no-pool, asks, asks-shortly, goes-on, gives, switches, ticks, wholly}
 use borrow.Author.Needs.{needs}
 use Rattle.run.proofs.turns.turn.Statement.{statement}
 use Rattle.run.proofs.turns.turn.Tie as tie
-
-abbrev tables : tie.Start → State
-tables b = state (now (b .args .states)) (now (b .args .owners)) (now (b .args .lists)) (now (b .args .calls)) (now (b .args .queue)) (b .args .d)
 
 enum-told : tie.Need-enum-told
 enum-told c = search needs
@@ -63,13 +58,13 @@ same-length : tie.Need-same-length
 same-length c = search needs
 
 returns-2 : tie.Need-returns-2
-returns-2 c = asks (c .before .before .before .before .before .before .before .before .before .before .before .before .args .s) (tables (c .before .before .before .before .before .before .before .before .before .before .before .before)) (c .before .before .before .before .before .step .given .1) (c .before .before .ask .ensures (now (c .before .before .before .before .before .before .before .before .before .before .before .before .args .states)) (now (c .before .before .before .before .before .before .before .before .before .before .before .before .args .owners)) (now (c .before .before .before .before .before .before .before .before .before .before .before .before .args .lists)) (now (c .before .before .before .before .before .before .before .before .before .before .before .before .args .queue)) (c .before .before .before .before .before .before .before .before .before .before .before .before .pre .1))
+returns-2 c = asks (c .before .before .before .before .before .before .before .before .before .before .before .before .pre .1) (c .before .before .before .before .before .step .given .1) (c .before .before .ask .ensures)
 
 same-length-2 : tie.Need-same-length-2
 same-length-2 c = search needs
 
 returns-3 : tie.Need-returns-3
-returns-3 c = asks-shortly (c .before .before .before .before .before .before .before .before .before .before .before .before .args .s) (tables (c .before .before .before .before .before .before .before .before .before .before .before .before)) (c .before .before .before .before .before .step2 .given .1) (c .before .before .ask2 .ensures (now (c .before .before .before .before .before .before .before .before .before .before .before .before .args .states)) (now (c .before .before .before .before .before .before .before .before .before .before .before .before .args .owners)) (now (c .before .before .before .before .before .before .before .before .before .before .before .before .args .lists)) (now (c .before .before .before .before .before .before .before .before .before .before .before .before .args .queue)) (c .before .before .before .before .before .before .before .before .before .before .before .before .pre .1))
+returns-3 c = asks-shortly (c .before .before .before .before .before .before .before .before .before .before .before .before .pre .1) (c .before .before .before .before .before .step2 .given .1) (c .before .before .ask2 .ensures)
 
 same-length-3 : tie.Need-same-length-3
 same-length-3 c = search needs
@@ -87,7 +82,7 @@ same-length-7 : tie.Need-same-length-7
 same-length-7 c = search needs
 
 returns-4 : tie.Need-returns-4
-returns-4 c = goes-on (c .before .before .before .before .before .before .before .before .before .before .before .before .before .before .before .before .before .before .before .before .before .before .before .before .args .s) (tables (c .before .before .before .before .before .before .before .before .before .before .before .before .before .before .before .before .before .before .before .before .before .before .before .before)) (c .before .before .before .before .before .before .before .before .before .before .before .before .before .before .before .before .before .step3 .given .1) (c .before .before .before .before .before .before .before .before .before .before .go-on .ensures)
+returns-4 c = goes-on (c .before .before .before .before .before .before .before .before .before .before .before .before .before .before .before .before .before .before .before .before .before .before .before .before .pre .1) (c .before .before .before .before .before .before .before .before .before .before .before .before .before .before .before .before .before .step3 .given .1) (c .before .before .before .before .before .before .before .before .before .before .go-on .ensures)
 
 same-length-8 : tie.Need-same-length-8
 same-length-8 c = search needs
@@ -99,13 +94,13 @@ same-length-10 : tie.Need-same-length-10
 same-length-10 c = search needs
 
 returns-5 : tie.Need-returns-5
-returns-5 c = gives (c .before .before .before .before .before .before .before .before .before .before .before .before .before .before .before .before .before .before .args .s) (tables (c .before .before .before .before .before .before .before .before .before .before .before .before .before .before .before .before .before .before)) (c .before .before .before .before .before .before .before .before .before .before .before .step4 .given .1) (c .before .before .before .before .before .before .give-back .ensures (now (c .before .before .before .before .before .before .before .before .before .before .before .before .before .before .before .before .before .before .args .lists)) (now (c .before .before .before .before .before .before .before .before .before .before .before .before .before .before .before .before .before .before .args .queue)) (c .before .before .before .before .before .before .before .before .before .before .before .before .before .before .before .before .before .before .pre .1))
+returns-5 c = gives (c .before .before .before .before .before .before .before .before .before .before .before .before .before .before .before .before .before .before .pre .1) (c .before .before .before .before .before .before .before .before .before .before .before .step4 .given .1) (c .before .before .before .before .before .before .give-back .ensures)
 
 same-length-11 : tie.Need-same-length-11
 same-length-11 c = search needs
 
 returns-6 : tie.Need-returns-6
-returns-6 c = switches (c .before .before .before .before .before .before .before .before .before .before .args .s) (tables (c .before .before .before .before .before .before .before .before .before .before)) (c .before .before .before .step5 .given .1) (c .switch .ensures (now (c .before .before .before .before .before .before .before .before .before .before .args .states)) (now (c .before .before .before .before .before .before .before .before .before .before .args .owners)) (now (c .before .before .before .before .before .before .before .before .before .before .args .lists)) (now (c .before .before .before .before .before .before .before .before .before .before .args .queue)) (c .before .before .before .before .before .before .before .before .before .before .pre .1))
+returns-6 c = switches (c .before .before .before .before .before .before .before .before .before .before .pre .1) (c .before .before .before .step5 .given .1) (c .switch .ensures)
 
 same-length-12 : tie.Need-same-length-12
 same-length-12 c = search needs
@@ -114,7 +109,7 @@ same-length-13 : tie.Need-same-length-13
 same-length-13 c = search needs
 
 returns-7 : tie.Need-returns-7
-returns-7 c = ticks (c .before .before .before .before .before .before .before .before .before .before .before .before .before .before .args .s) (tables (c .before .before .before .before .before .before .before .before .before .before .before .before .before .before)) (c .before .before .before .before .before .before .before .enum-told2 .given .1) (c .before .before .before .before .tick .ensures (now (c .before .before .before .before .before .before .before .before .before .before .before .before .before .before .args .states)) (now (c .before .before .before .before .before .before .before .before .before .before .before .before .before .before .args .owners)) (now (c .before .before .before .before .before .before .before .before .before .before .before .before .before .before .args .lists)) (c .before .before .before .before .before .before .before .before .before .before .before .before .before .before .pre .1))
+returns-7 c = ticks (c .before .before .before .before .before .before .before .before .before .before .before .before .before .before .pre .1) (c .before .before .before .before .before .before .before .enum-told2 .given .1) (c .before .before .before .before .tick .ensures)
 
 same-length-14 : tie.Need-same-length-14
 same-length-14 c = search needs
@@ -123,7 +118,7 @@ same-length-15 : tie.Need-same-length-15
 same-length-15 c = search needs
 
 returns-8 : tie.Need-returns-8
-returns-8 c = wholly (c .before .before .before .before .before .before .before .before .before .before .args .s) (tables (c .before .before .before .before .before .before .before .before .before .before)) (c .before .before .before .enum-told3 .given .1) (c .whole .ensures (now (c .before .before .before .before .before .before .before .before .before .before .args .owners)) (now (c .before .before .before .before .before .before .before .before .before .before .args .lists)) (now (c .before .before .before .before .before .before .before .before .before .before .args .queue)) (c .before .before .before .before .before .before .before .before .before .before .args .d) (c .before .before .before .before .before .before .before .before .before .before .pre .1))
+returns-8 c = wholly (c .before .before .before .before .before .before .before .before .before .before .pre .1) (c .before .before .before .enum-told3 .given .1) (c .whole .ensures)
 
 pub turn-spec : {M : Type 1} → statement M
 turn-spec =
