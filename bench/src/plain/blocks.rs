@@ -18,7 +18,7 @@ impl Shape {
             && (1..=5).contains(&self.levels)
             && (1..=16).contains(&self.tops)
             && (1..=65536).contains(&self.top_size)
-            && self.top_size % power(self.levels) == 0
+            && self.top_size.is_multiple_of(power(self.levels))
     }
 
     /// How many blocks a level has.

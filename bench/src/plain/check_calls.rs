@@ -1,6 +1,7 @@
 //! Each call by itself, and the blocks in hand.
 
 use super::calls::{each, ThreadCall};
+use super::count::count;
 use super::numbers::*;
 use crate::shape::Shape;
 
@@ -33,12 +34,6 @@ pub fn calls_valid(s: &Shape, clock: u32, calls: &[u64]) -> bool {
     each(calls).all(|c| fields_used(&c) && level_kept(s, &c) && c.size <= s.top_size && deadline_kept(clock.into(), &c))
 }
 
-/// How many blocks are FREEING or ALLOCATING: of the known states these alone have the third bit set. Counted in bytes, in parts that a
-/// byte can count, which is quickest.
-fn count_in_hand(states: &[u8]) -> usize {
-    states.chunks(240).map(|part| usize::from(part.iter().map(|&state| state >> 2).sum::<u8>())).sum()
-}
-
 /// Whether ALLOCATING blocks correspond to dividing calls and FREEING blocks to releasing calls, one to one: each call's block is in its
 /// state, no two are the same, and there are no more.
 pub fn hands_valid(s: &Shape, states: &[u8], calls: &[u64]) -> bool {
@@ -50,5 +45,5 @@ pub fn hands_valid(s: &Shape, states: &[u8], calls: &[u64]) -> bool {
             return false;
         }
     }
-    count_in_hand(states) == in_hand().count()
+    in_hand().count() == count(states, |state| state >= FREEING)
 }

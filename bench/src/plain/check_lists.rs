@@ -1,6 +1,7 @@
 //! The free lists: each names the FREE blocks of its level once and nothing else, with zeros behind its end.
 
 use super::blocks::MOST_BLOCKS;
+use super::count::count;
 use super::numbers::FREE;
 use crate::shape::Shape;
 
@@ -12,17 +13,15 @@ fn all_zero(cells: &[u16]) -> bool {
     cells.iter().fold(0, |any, &cell| any | cell) == 0
 }
 
-/// Marks the members of a list; answers whether all are blocks of the level and none stands there twice.
+/// Marks the members of a list; answers whether all are blocks of the level.
 fn mark(members: &[u16], marks: &mut [u8]) -> bool {
-    let mut twice = 0;
     for &member in members {
-        let Some(mark) = marks.get_mut(usize::from(member)) else {
-            return false;
-        };
-        twice |= *mark;
-        *mark = 1;
+        match marks.get_mut(usize::from(member)) {
+            Some(mark) => *mark = 1,
+            None => return false,
+        }
     }
-    twice == 0
+    true
 }
 
 /// Whether the blocks marked are those that are FREE.
@@ -30,12 +29,14 @@ fn marks_agree(states: &[u8], marks: &[u8]) -> bool {
     !states.iter().zip(marks).fold(false, |differ, (&state, &mark)| differ | (mark != u8::from(state == FREE)))
 }
 
-/// The list of one level: its cells, how many are used, and unset marks for the level's blocks.
+/// The list of one level: its cells, how many are used, and unset marks for the level's blocks. As many members as there are FREE blocks
+/// cannot mark them all if one stands there twice.
 fn level_valid(states: &[u8], cells: &[u16], used: u16, marks: &mut [u8]) -> bool {
-    let Some((members, behind)) = cells.split_at_checked(usize::from(used)) else {
+    let used = usize::from(used);
+    let Some((members, behind)) = cells.split_at_checked(used) else {
         return false;
     };
-    all_zero(behind) && mark(members, marks) && marks_agree(states, marks)
+    all_zero(behind) && used == count(states, |state| state == FREE) && mark(members, marks) && marks_agree(states, marks)
 }
 
 /// The lists of all levels; the marks stand in one flat array.

@@ -10,6 +10,7 @@ mod check_calls;
 mod check_lists;
 mod check_queue;
 mod check_tree;
+mod count;
 mod lent;
 mod lists;
 mod numbers;

@@ -1,6 +1,7 @@
 //! The three questions on valid tables: whole, cover and map.
 
 use super::calls::each;
+use super::count::count;
 use super::numbers::*;
 use crate::shape::Shape;
 
@@ -23,30 +24,25 @@ pub fn cover(s: &Shape, states: &[u8], offset: usize) -> Result<(usize, u8), Ref
     Ok((s.id(level, block), states[s.place(level, block)]))
 }
 
-/// How many undivided existing blocks there are.
-fn count_undivided(states: &[u8]) -> usize {
-    let sum: u16 = states.iter().map(|&state| u16::from((state != DIVIDED) & (state != NOEXIST))).sum();
-    usize::from(sum)
-}
-
-/// Lists so many neighbours of a level from here on, a DIVIDED one as its quarters.
-fn list_blocks(s: &Shape, states: &[u8], row: &mut std::slice::IterMut<u32>, level: usize, block: usize, count: usize) {
+/// Lists so many neighbours of a level from here on, a DIVIDED one as its quarters, and answers where the row goes on.
+fn list_blocks(s: &Shape, states: &[u8], row: &mut [u32], mut at: usize, level: usize, block: usize, count: usize) -> usize {
     let from = s.place(level, block);
     for (block, &state) in (block..).zip(&states[from..from + count]) {
         if state == DIVIDED {
-            list_blocks(s, states, row, level + 1, 4 * block, 4);
-        } else if let Some(cell) = row.next() {
-            *cell = s.id(level, block) as u32;
+            at = list_blocks(s, states, row, at, level + 1, 4 * block, 4);
+        } else {
+            row[at] = s.id(level, block) as u32;
+            at += 1;
         }
     }
+    at
 }
 
 /// Map: the ids of all undivided blocks by address into a row; one that is too short is left untouched.
 pub fn map(s: &Shape, states: &[u8], row: &mut [u32]) -> Result<usize, Refusal> {
-    let count = count_undivided(states);
-    if row.len() < count {
+    let undivided = count(states, |state| (state != DIVIDED) & (state != NOEXIST));
+    if row.len() < undivided {
         return Err(ROW_TOO_SHORT);
     }
-    list_blocks(s, states, &mut row.iter_mut(), 0, 0, s.tops);
-    Ok(count)
+    Ok(list_blocks(s, states, row, 0, 0, 0, s.tops))
 }

@@ -59,5 +59,5 @@ pub fn growth(name: &str, all: &[Figures]) -> String {
     let mut rows = vec![line("*blocks*", pairs().map(blocks).collect())];
     rows.extend(Kind::ALL.iter().map(|&kind| line(kind.name(), pairs().map(|pair| grown(pair, kind)).collect())));
     let header = line("call", pairs().map(from_to).collect());
-    format!("## Growth\n\nHow many times longer a call of {name} takes from one shape to the next.\n\n{}", table(&header, &rows))
+    format!("## Growth\n\nHow many times longer a {name} call takes from one shape to the next.\n\n{}", table(&header, &rows))
 }
