@@ -1,0 +1,160 @@
+//! A history of calls by all threads: the pool is filled with small blocks, half of them are given back here and there, and then blocks
+//! of all sizes come and go. So the tree is well divided, the lists are long and in no order, and at most times some calls are open.
+
+use crate::call::{Call, Reply};
+use crate::random::Random;
+use crate::shape::Shape;
+use crate::tables::Tables;
+
+/// The stages that matter here, and the answers that change what a thread holds.
+const CLOSED: u64 = 0;
+const WAITING: u64 = 5;
+const OPENED: usize = 40;
+const GRANTED: usize = 45;
+
+#[derive(Clone, Copy, Debug, PartialEq, Eq)]
+pub enum Phase {
+    Fill,
+    Thin,
+    Mix,
+}
+
+pub struct Churn {
+    shape: Shape,
+    random: Random,
+    phase: Phase,
+    /// The ids that each thread holds, and the bytes of all of them.
+    held: Vec<Vec<usize>>,
+    held_bytes: usize,
+}
+
+impl Churn {
+    /// A history that fills the pool first.
+    pub fn new(shape: Shape) -> Churn {
+        Churn { shape, random: Random::new(0x5a17_ba1a_9ce5), phase: Phase::Fill, held: vec![Vec::new(); shape.threads], held_bytes: 0 }
+    }
+
+    /// A history that begins with the mixed phase.
+    pub fn mixed(shape: Shape) -> Churn {
+        Churn { phase: Phase::Mix, ..Churn::new(shape) }
+    }
+
+    pub fn phase(&self) -> Phase {
+        self.phase
+    }
+
+    /// The next call on tables that stand so.
+    pub fn next(&mut self, tables: &Tables) -> Call {
+        if self.phase == Phase::Mix {
+            if let Some(call) = self.aside() {
+                return call;
+            }
+        }
+        match (tables.device.running as usize).checked_sub(1) {
+            Some(thread) if !self.random.once_in(4) => self.work(thread, tables),
+            _ => self.switch(tables),
+        }
+    }
+
+    /// Takes note of what a call replied.
+    pub fn learn(&mut self, call: Call, reply: Reply) {
+        match (call, reply) {
+            (Call::GoOn { thread }, [GRANTED, id, _]) => {
+                self.held[thread].push(id);
+                self.held_bytes += self.size_of(id);
+            }
+            (Call::GiveBack { thread, id }, [OPENED, ..]) => {
+                self.held[thread].retain(|&other| other != id);
+                self.held_bytes -= self.size_of(id);
+            }
+            _ => {}
+        }
+        let bytes = self.shape.bytes();
+        match self.phase {
+            Phase::Fill if self.held_bytes * 8 >= bytes * 7 => self.phase = Phase::Thin,
+            Phase::Thin if self.held_bytes * 16 <= bytes * 7 => self.phase = Phase::Mix,
+            _ => {}
+        }
+    }
+
+    /// Now and then a tick, a question or a call that is wrong.
+    fn aside(&mut self) -> Option<Call> {
+        let bytes = self.shape.bytes();
+        match self.random.below(128) {
+            0..=3 => Some(Call::Tick),
+            4..=5 => Some(Call::Whole),
+            6..=7 => Some(Call::Cover { offset: self.random.below(bytes + bytes / 8) }),
+            8 => Some(Call::Map),
+            9..=11 => Some(self.wrong()),
+            _ => None,
+        }
+    }
+
+    /// A call with numbers that are mostly refused.
+    fn wrong(&mut self) -> Call {
+        let thread = self.random.below(self.shape.threads + 1);
+        match self.random.below(4) {
+            0 => Call::Ask { thread, size: self.random.below(2 * self.shape.top_size), wait: self.random.below(1_300_000) as i32 - 100 },
+            1 => Call::GoOn { thread },
+            2 => Call::GiveBack { thread, id: self.random.below(4096 * 4200) / 3 + self.shape.pool },
+            _ => Call::Switch { thread },
+        }
+    }
+
+    /// Another thread that is not blocked runs; where all are, the clock moves on.
+    fn switch(&mut self, tables: &Tables) -> Call {
+        let ready: Vec<usize> = (0..self.shape.threads).filter(|&thread| tables.stage(thread) != WAITING).collect();
+        match ready.len() {
+            0 => Call::Tick,
+            count => Call::Switch { thread: ready[self.random.below(count)] },
+        }
+    }
+
+    /// The running thread's next call: its open call goes on, or it gives or asks.
+    fn work(&mut self, thread: usize, tables: &Tables) -> Call {
+        if tables.stage(thread) != CLOSED {
+            return Call::GoOn { thread };
+        }
+        let count = self.held[thread].len();
+        if count > 0 && self.gives() {
+            return Call::GiveBack { thread, id: self.held[thread][self.random.below(count)] };
+        }
+        match self.phase {
+            Phase::Thin => self.switch(tables),
+            _ => Call::Ask { thread, size: self.size(), wait: self.wait(thread) },
+        }
+    }
+
+    /// Whether a thread gives rather than asks: so that about half of the bytes are held.
+    fn gives(&mut self) -> bool {
+        match self.phase {
+            Phase::Fill => false,
+            Phase::Thin => true,
+            Phase::Mix => (self.held_bytes * 2 > self.shape.bytes()) != self.random.once_in(4),
+        }
+    }
+
+    /// A size to ask for: the smallest block's, or in the mixed phase any level's, every second time.
+    fn size(&mut self) -> usize {
+        let deepest = self.shape.levels - 1;
+        if self.phase != Phase::Mix || self.random.once_in(2) {
+            return self.shape.size(deepest);
+        }
+        let size = self.shape.size(self.random.below(deepest + 1));
+        size - self.random.below(size / 4)
+    }
+
+    /// How long a thread waits: some not at all, some for a time, one in four for ever.
+    fn wait(&mut self, thread: usize) -> i32 {
+        match thread % 4 {
+            0 => 0,
+            3 => -1,
+            _ => 1 + self.random.below(300) as i32,
+        }
+    }
+
+    /// The bytes of the block with this id.
+    fn size_of(&self, id: usize) -> usize {
+        self.shape.size(id >> 8 & 15)
+    }
+}

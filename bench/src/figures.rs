@@ -1,0 +1,39 @@
+//! What was measured of the calls.
+
+use crate::call::Pool;
+use crate::kind::Kind;
+use crate::measure;
+use crate::shape::Shape;
+use crate::spoilt;
+use crate::starts;
+
+/// The times of one kind of call at one shape, in nanoseconds: one for each pool.
+pub struct Row {
+    pub kind: Kind,
+    pub times: Vec<f64>,
+}
+
+/// What was measured at one shape, and how many calls were compared before that.
+pub struct Figures {
+    pub shape: Shape,
+    pub rows: Vec<Row>,
+    pub compared: usize,
+    pub spoilt: usize,
+    pub refused: usize,
+}
+
+impl Figures {
+    /// Compares the pools at a shape, then measures each kind of call there.
+    pub fn measure(shape: Shape, pools: &[Box<dyn Pool>], rounds: usize) -> Figures {
+        let (all, compared) = starts::starts(shape, pools);
+        let (spoilt, refused) = spoilt::compare(shape, pools, &all);
+        let row = |starts: &starts::Starts| measure::of_kind(shape, pools, starts, rounds).map(|times| Row { kind: starts.kind, times });
+        let rows = all.iter().filter_map(row).collect();
+        Figures { shape, rows, compared, spoilt, refused }
+    }
+
+    /// The row of this kind, where the shape has such a call.
+    pub fn row(&self, kind: Kind) -> Option<&Row> {
+        self.rows.iter().find(|row| row.kind == kind)
+    }
+}

@@ -1,0 +1,71 @@
+//! How long the calls of Saltbalance take, beside the same calls in plain C and in safe Rust; and its script program beside a plain C
+//! runner.
+
+mod arguments;
+mod call;
+mod churn;
+mod figures;
+mod goals;
+mod kind;
+mod linked;
+mod machine;
+mod measure;
+mod plain;
+mod program;
+mod random;
+mod report;
+mod script;
+mod shape;
+mod spoilt;
+mod starts;
+mod tables;
+mod together;
+
+use arguments::Rounds;
+use call::Pool;
+use figures::Figures;
+use program::Timed;
+use std::{fs, io};
+
+/// The pools to compare, the proved one first.
+fn pools() -> Vec<Box<dyn Pool>> {
+    vec![
+        #[cfg(feature = "archive")]
+        Box::new(linked::Proved),
+        Box::new(linked::PlainC),
+        Box::new(plain::PlainRust),
+    ]
+}
+
+/// The calls at each shape.
+fn calls(pools: &[Box<dyn Pool>], rounds: usize) -> Vec<Figures> {
+    let measure = |shape: shape::Shape| {
+        eprintln!("bench: the calls on {} blocks", shape.blocks());
+        Figures::measure(shape, pools, rounds)
+    };
+    shape::SHAPES.into_iter().map(measure).collect()
+}
+
+/// The scripts, where the program is there to run them.
+fn scripts(rounds: usize) -> io::Result<Option<Vec<Timed>>> {
+    let Some(program) = program::find() else {
+        eprintln!("bench: the script program is left out: target/bin/saltbalance is missing (./saltbalance at the root builds it)");
+        return Ok(None);
+    };
+    eprintln!("bench: the scripts");
+    program::measure(&program, rounds).map(Some)
+}
+
+fn main() -> io::Result<()> {
+    let given = arguments::arguments();
+    let pools = pools();
+    let names: Vec<&str> = pools.iter().map(|pool| pool.name()).collect();
+    let figures = calls(&pools, given.rounds.calls);
+    let scripts = scripts(given.rounds.scripts)?;
+    let document = report::document(&names, &figures, scripts.as_deref(), given.rounds);
+    print!("{document}");
+    match given.write {
+        Some(file) => fs::write(file, document),
+        None => Ok(()),
+    }
+}

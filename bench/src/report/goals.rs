@@ -1,0 +1,43 @@
+//! The goals, and by how much those that are not met are missed.
+
+use super::markdown::{list, ratio};
+use crate::figures::Figures;
+use crate::goals::{self, Measured};
+use crate::program::Timed;
+
+/// What was measured for a goal: the worst where all meet it, else each that does not, and by how much.
+fn found(all: &[Measured]) -> String {
+    let missed: Vec<String> = all
+        .iter()
+        .filter(|each| !each.met())
+        .map(|each| format!("{} {}, which is {} too much", each.what, ratio(each.ratio), ratio(each.ratio - each.goal)))
+        .collect();
+    let met: Vec<&Measured> = all.iter().filter(|each| each.met()).collect();
+    let worst = met.iter().map(|each| each.ratio).fold(0.0, f64::max);
+    let rest = format!("{} of {} at most {}", met.len(), all.len(), ratio(worst));
+    match (missed.is_empty(), met.is_empty()) {
+        (true, _) => rest,
+        (false, true) => missed.join("; "),
+        (false, false) => format!("{}; {rest}", missed.join("; ")),
+    }
+}
+
+/// A goal's row.
+fn row(goal: String, all: &[Measured]) -> Vec<String> {
+    let met = if all.iter().all(Measured::met) { "yes" } else { "no" };
+    vec![goal, found(all), met.to_string()]
+}
+
+/// The table of goals.
+pub fn goals(calls: &[Figures], scripts: Option<&[Timed]>) -> String {
+    let call = format!("a checked call at the largest shape takes at most {} times plain C that makes the same check", goals::CALL);
+    let growth =
+        format!("a call's time grows linearly: from one shape to the next at most {} times as much as the number of blocks", goals::GROWTH);
+    let record = format!("a record takes the script program at most {} times a plain C runner's time", goals::RECORD);
+    let last = match scripts {
+        Some(scripts) => row(record, &goals::records(scripts)),
+        None => vec![record, "not measured".to_string(), "-".to_string()],
+    };
+    let rows = [row(call, &goals::calls(calls)), row(growth, &goals::growth(calls)), last];
+    format!("## Goals\n\n{}", list(&["goal", "measured", "met"], &rows))
+}

@@ -1,0 +1,34 @@
+//! What was measured, as a document.
+
+mod calls;
+mod goals;
+mod markdown;
+mod method;
+mod program;
+
+use crate::figures::Figures;
+use crate::machine;
+use crate::program::Timed;
+use crate::Rounds;
+
+/// The machine as a table.
+fn machine() -> String {
+    let rows: Vec<Vec<String>> = machine::facts().into_iter().map(|(name, value)| vec![name.to_string(), value]).collect();
+    format!("## Machine\n\n{}", markdown::list(&["what", "which"], &rows))
+}
+
+/// The whole document. Without the proved calls there are no goals.
+pub fn document(names: &[&str], all: &[Figures], scripts: Option<&[Timed]>, rounds: Rounds) -> String {
+    let proved = names.len() == 3;
+    let parts = [
+        "# Benchmarks\n\nWritten by bench/run, which measured every figure here. Run it again for those of another machine.\n\n"
+            .to_string(),
+        if proved { goals::goals(all, scripts) } else { String::new() },
+        machine(),
+        method::method(all, rounds),
+        calls::shapes(names, all),
+        calls::growth(names[0], all),
+        program::scripts(scripts),
+    ];
+    format!("{}\n", parts.concat().trim_end())
+}
