@@ -52,3 +52,6 @@ pub const WHOLE_TAG: u8 = 7;
 
 // The longest script that is run.
 pub const MOST_BYTES: usize = 65536;
+
+// The wait of an ask that stands without one, in milliseconds: forever.
+pub const SHORT_WAIT: i32 = -1;

@@ -3,6 +3,7 @@ use rules::Answer;
 use rules::Device;
 use rules::Ran;
 use rules::script::Record;
+use rules::script::SHORT_WAIT;
 use shape::Shape;
 use shape::time::Millis;
 ghost use mathlib.Core.Path.{_≡_};
@@ -37,7 +38,7 @@ pub fn turn(
             device: d,
         },
         Record::ShortAsk { thread, size } => Ran {
-            answer: ready::ask(d, s, calls, thread, size, Millis(-1)),
+            answer: ready::ask(d, s, calls, thread, size, Millis(SHORT_WAIT)),
             device: d,
         },
         Record::GoOn(thread) => ready::go_on(d, s, states, owners, lists, calls, queue, thread),
