@@ -1,7 +1,7 @@
 // A whole script to its whole listing.
-pub mod first;
-pub mod rest;
-pub mod turns;
+mod first;
+mod rest;
+mod turns;
 
 use lines::LINE_MOST;
 use rules::Answer;
