@@ -46,7 +46,7 @@ impl Churn {
     /// The next call on tables that stand so.
     pub fn next(&mut self, tables: &Tables) -> Call {
         if self.phase == Phase::Mix {
-            if let Some(call) = self.aside() {
+            if let Some(call) = self.aside(tables) {
                 return call;
             }
         }
@@ -78,27 +78,38 @@ impl Churn {
     }
 
     /// Now and then a tick, a question or a call that is wrong.
-    fn aside(&mut self) -> Option<Call> {
+    fn aside(&mut self, tables: &Tables) -> Option<Call> {
         let bytes = self.shape.bytes();
         match self.random.below(128) {
             0..=3 => Some(Call::Tick),
             4..=5 => Some(Call::Whole),
             6..=7 => Some(Call::Cover { offset: self.random.below(bytes + bytes / 8) }),
             8 => Some(Call::Map),
-            9..=11 => Some(self.wrong()),
+            9..=11 => Some(self.wrong(tables)),
             _ => None,
         }
     }
 
-    /// A call with numbers that are mostly refused.
-    fn wrong(&mut self) -> Call {
-        let thread = self.random.below(self.shape.threads + 1);
+    /// A call with numbers on either side of the lines, mostly by the running thread.
+    fn wrong(&mut self, tables: &Tables) -> Call {
+        let running = (tables.device.running as usize).saturating_sub(1);
+        let thread = if self.random.once_in(4) { self.random.below(self.shape.threads + 1) } else { running };
         match self.random.below(4) {
-            0 => Call::Ask { thread, size: self.random.below(2 * self.shape.top_size), wait: self.random.below(1_300_000) as i32 - 100 },
+            0 => {
+                let wait = [-2, -1, 0, 1, 600_000, 600_001, i32::MIN, i32::MAX][self.random.below(8)];
+                Call::Ask { thread, size: self.random.below(self.shape.top_size * 3 / 2), wait }
+            }
             1 => Call::GoOn { thread },
-            2 => Call::GiveBack { thread, id: self.random.below(4096 * 4200) / 3 + self.shape.pool },
+            2 => Call::GiveBack { thread, id: self.any_id() },
             _ => Call::Switch { thread },
         }
+    }
+
+    /// An id of a block that there may be or not.
+    fn any_id(&mut self) -> usize {
+        let level = self.random.below(self.shape.levels + 1);
+        let block = self.random.below((self.shape.tops << (2 * level)) + 1);
+        self.shape.pool + usize::from(self.random.once_in(16)) + 256 * level + 4096 * block
     }
 
     /// Another thread that is not blocked runs; where all are, the clock moves on.

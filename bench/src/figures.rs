@@ -4,7 +4,7 @@ use crate::call::Pool;
 use crate::kind::Kind;
 use crate::measure;
 use crate::shape::Shape;
-use crate::spoilt;
+use crate::spoilt::{self, Spoilt};
 use crate::starts;
 
 /// The times of one kind of call at one shape, in nanoseconds: one for each pool.
@@ -18,18 +18,18 @@ pub struct Figures {
     pub shape: Shape,
     pub rows: Vec<Row>,
     pub compared: usize,
-    pub spoilt: usize,
-    pub refused: usize,
+    pub spoilt: Spoilt,
 }
 
 impl Figures {
-    /// Compares the pools at a shape, then measures each kind of call there.
+    /// Compares the pools at a shape and at another one with as many blocks, then measures each kind of call.
     pub fn measure(shape: Shape, pools: &[Box<dyn Pool>], rounds: usize) -> Figures {
+        let (_, beside) = starts::starts(shape.beside(), pools);
         let (all, compared) = starts::starts(shape, pools);
-        let (spoilt, refused) = spoilt::compare(shape, pools, &all);
+        let spoilt = spoilt::compare(shape, pools, &all);
         let row = |starts: &starts::Starts| measure::of_kind(shape, pools, starts, rounds).map(|times| Row { kind: starts.kind, times });
         let rows = all.iter().filter_map(row).collect();
-        Figures { shape, rows, compared, spoilt, refused }
+        Figures { shape, rows, compared: beside + compared, spoilt }
     }
 
     /// The row of this kind, where the shape has such a call.

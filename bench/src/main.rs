@@ -4,6 +4,7 @@
 mod arguments;
 mod call;
 mod churn;
+mod crafted;
 mod figures;
 mod goals;
 mod kind;

@@ -23,13 +23,13 @@ compiled for any x86-64 processor. Go on is measured by the step that it makes.
 fn agreement(all: &[Figures]) -> String {
     let sum = |of: fn(&Figures) -> usize| whole(all.iter().map(of).sum());
     format!(
-        "**Same work.** Before anything is measured each makes the same history of calls on tables of its own. After each of the {} calls \
+        "**Same work.** Before anything is measured each makes the same histories of calls on tables of its own. After each of the {} calls \
          the replies and all tables are compared. Then {} calls are made on tables into which something was written, on tables of a wrong \
          length or with another shape, and compared likewise; {} of them are refused because the tables are no valid state. The run ends at \
          the first difference.\n",
         sum(|figures| figures.compared),
-        sum(|figures| figures.spoilt),
-        sum(|figures| figures.refused)
+        sum(|figures| figures.spoilt.calls),
+        sum(|figures| figures.spoilt.refused)
     )
 }
 
