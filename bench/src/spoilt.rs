@@ -94,17 +94,15 @@ impl Spoilt {
             }
         }
     }
-}
 
-/// Compares the pools on spoilt tables from all starts.
-pub fn compare(shape: Shape, pools: &[Box<dyn Pool>], all: &[Starts]) -> Spoilt {
-    let mut random = Random::new(2);
-    let mut spoilt = Spoilt::default();
-    for start in all.iter().filter(|starts| starts.kind != Kind::Build).flat_map(|starts| &starts.list) {
-        spoilt.crafted(shape, pools, start);
-        for _ in 0..TRIED {
-            spoilt.written(&mut random, shape, pools, start);
+    /// Compares the pools on spoilt tables from all starts.
+    pub fn compare(&mut self, shape: Shape, pools: &[Box<dyn Pool>], all: &[Starts]) {
+        let mut random = Random::new(2);
+        for start in all.iter().filter(|starts| starts.kind != Kind::Build).flat_map(|starts| &starts.list) {
+            self.crafted(shape, pools, start);
+            for _ in 0..TRIED {
+                self.written(&mut random, shape, pools, start);
+            }
         }
     }
-    spoilt
 }
