@@ -21,6 +21,7 @@ mod spoilt;
 mod starts;
 mod tables;
 mod together;
+mod words;
 
 use arguments::Rounds;
 use call::Pool;
@@ -41,7 +42,7 @@ fn pools() -> Vec<Box<dyn Pool>> {
 /// The calls at each shape.
 fn calls(pools: &[Box<dyn Pool>], rounds: usize) -> Vec<Figures> {
     let measure = |shape: shape::Shape| {
-        eprintln!("bench: the calls on {} blocks", shape.blocks());
+        eprintln!("bench: the calls on {}", words::many(shape.blocks(), "block"));
         Figures::measure(shape, pools, rounds)
     };
     shape::SHAPES.into_iter().map(measure).collect()

@@ -1,9 +1,9 @@
 //! What was compared and how, in words.
 
-use super::markdown::whole;
 use crate::figures::Figures;
 use crate::measure::{MOST_COPIES, SAMPLE_BYTES};
 use crate::starts::KEPT;
+use crate::words::whole;
 use crate::Rounds;
 
 /// What the three are.
@@ -53,9 +53,11 @@ fn programs(rounds: usize) -> String {
     format!(
         "**Scripts.** The script program reads a script of up to 65,536 bytes, and so does a plain C runner (bench/runner.c), which makes the \
          steps of bench/plain on tables of its own and never checks them as a whole; both print through a buffer of their own. First their \
-         listings are compared. Then whole processes are timed, {} times each with the script and with an empty one, in turn. The time for a \
-         record is the median with the script less the median with the empty one, divided by the number of records. What is printed goes to \
-         /dev/null.\n",
+         listings are compared. Then whole processes are timed, {} times each with the script and with an empty one, in turn; what is printed \
+         goes to /dev/null. The figures are medians. The time for a record is that of the whole process \
+         less that of the same program with an empty script, divided by the number of records. What a program does at its start is then \
+         left out; so the figures stand there once more with only the plain C runner's time for an empty script taken away from both, as \
+         the time that any process takes.\n",
         whole(rounds)
     )
 }
