@@ -23,8 +23,9 @@ pub struct Measured {
 }
 
 impl Measured {
+    /// Whether the goal is met, to the second digit behind the point, which is what is printed.
     pub fn met(&self) -> bool {
-        self.ratio <= self.goal
+        (self.ratio * 100.0).round() <= self.goal * 100.0
     }
 }
 
