@@ -5,6 +5,7 @@ use crate::call::{Call, Reply};
 use crate::random::Random;
 use crate::shape::Shape;
 use crate::tables::{Tables, CELLS};
+use crate::wrong;
 
 /// The stages and the kind of wait that matter here, and the answers that change what a thread holds.
 const CLOSED: u64 = 0;
@@ -95,24 +96,9 @@ impl Churn {
     fn wrong(&mut self, tables: &Tables) -> Call {
         let running = (tables.device.running as usize).saturating_sub(1);
         let thread = if self.random.once_in(4) { self.random.below(self.shape.threads + 1) } else { running };
-        match self.random.below(4) {
-            0 => {
-                let holds_nothing = self.held.get(thread).is_some_and(Vec::is_empty);
-                let waits = [-2, 600_001, i32::MIN, i32::MAX, 0, 1, -1, 600_000];
-                let wait = waits[self.random.below(if holds_nothing && self.may_wait(tables) { 8 } else { 6 })];
-                Call::Ask { thread, size: self.random.below(self.shape.top_size * 3 / 2), wait }
-            }
-            1 => Call::GoOn { thread },
-            2 => Call::GiveBack { thread, id: self.any_id() },
-            _ => Call::Switch { thread },
-        }
-    }
-
-    /// An id of a block that there may be or not.
-    fn any_id(&mut self) -> usize {
-        let level = self.random.below(self.shape.levels + 1);
-        let block = self.random.below((self.shape.tops << (2 * level)) + 1);
-        self.shape.pool + usize::from(self.random.once_in(16)) + 256 * level + 4096 * block
+        let holds_nothing = self.held.get(thread).is_some_and(Vec::is_empty);
+        let may_wait = holds_nothing && self.may_wait(tables);
+        wrong::call(&mut self.random, self.shape, thread, may_wait)
     }
 
     /// Another thread that is not blocked runs; where all are, the clock moves on.

@@ -22,6 +22,7 @@ mod starts;
 mod tables;
 mod together;
 mod words;
+mod wrong;
 
 use arguments::Rounds;
 use call::Pool;

@@ -14,9 +14,10 @@ The nine calls of include/saltbalance.h, three times, on the same tables:
 - **C**: bench/plain.c and what stands in bench/plain;
 - **Rust**: safe Rust in bench/src/plain.
 
-C and Rust make the same check of all tables in front of each call but build, and then the same step. They are written for speed: passes \
-without branches that the compiler turns into vector code, quarters four at a time as words, marks in one flat array. All three are \
-compiled for any x86-64 processor. Go on is measured by the step that it makes.
+C and Rust make the same check of all tables in front of each call but build, and then the same step: what is decided is the same, and how \
+is what was found quickest in each language. Passes have no branches, so that the compiler turns them into vector code, quarters are read \
+four at a time as words, and marks stand in one flat array. All three are compiled for any x86-64 processor. Go on is measured by the step \
+that it makes.
 ";
 
 /// How many calls were compared, and that all were alike.
@@ -38,7 +39,7 @@ fn figures(rounds: usize) -> String {
     format!(
         "**States.** In that history eight threads fill the pool with smallest blocks, give half of them back here and there, and then take \
          and give blocks of all sizes. The tree is well divided, the lists are long and in no order, several threads hold blocks, and some \
-         calls are open. Each call is measured from {KEPT} states, taken evenly from those on which the history made it.\n\n\
+         calls are open. Each call is measured from up to {KEPT} states, taken evenly from those on which the history made it.\n\n\
          **Figures.** A sample is the same call on each of some copies of the tables, timed as a whole: as many copies as fill {} bytes, at \
          least one and at most {MOST_COPIES}. Record and tables are put back before each sample, outside the timed part. In each of {} rounds \
          all have their turn, and so has a call that does nothing. A time is the median of the rounds less that of the call that does \
