@@ -16,8 +16,9 @@ The nine calls of include/saltbalance.h, three times, on the same tables:
 
 C and Rust make the same check of all tables in front of each call but build, and then the same step: what is decided is the same, and how \
 is what was found quickest in each language. Passes have no branches, so that the compiler turns them into vector code, quarters are read \
-four at a time as words, and marks stand in one flat array. All three are compiled for any x86-64 processor. Go on is measured by the step \
-that it makes.
+four at a time as words, and marks stand in one flat array. All three are compiled for any x86-64 processor. In all three functions begin at \
+multiples of 64 bytes, so that no figure hangs on where the linker puts a loop: the archive is linked from a copy in which only that \
+differs. Go on is measured by the step that it makes.
 ";
 
 /// How many calls were compared, and that all were alike.
