@@ -8,8 +8,10 @@ use std::process::{self, Command};
 const ARCHIVE: &str = "libsaltbalance_c.a";
 const LIBRARY: &str = "saltbalance_c";
 
-/// What the C is compiled with.
-const FLAGS: [&str; 6] = ["-std=c11", "-O3", "-Wall", "-Wextra", "-I../include", "-I."];
+/// What the C is compiled with: how, then what it is warned of and where headers stand. Functions begin at multiples of 64 bytes, here as in
+/// the archive's copy and in Rust (.cargo/config.toml), so that no figure hangs on where the linker puts a loop.
+const HOW: [&str; 3] = ["-std=c11", "-O3", "-falign-functions=64"];
+const WHERE: [&str; 4] = ["-Wall", "-Wextra", "-I../include", "-I."];
 
 fn main() {
     for changed in ["build.rs", "plain", "plain.c", "plain.h", "runner", "runner.c", "../include"] {
@@ -19,17 +21,17 @@ fn main() {
     compile_calls(&out);
     compile_runner(&out);
     if env::var_os("CARGO_FEATURE_ARCHIVE").is_some() {
-        link_archive();
+        link_archive(&out);
     }
     println!("cargo:rustc-env=BENCH_C_COMPILER={}", first_line("gcc", "--version"));
     println!("cargo:rustc-env=BENCH_RUST_COMPILER={}", first_line("rustc", "--version"));
-    println!("cargo:rustc-env=BENCH_C_FLAGS={}", FLAGS[..2].join(" "));
+    println!("cargo:rustc-env=BENCH_C_FLAGS={}", HOW.join(" "));
 }
 
 /// The plain C calls as a library.
 fn compile_calls(out: &Path) {
     let object = out.join("plain.o");
-    run(Command::new("gcc").args(FLAGS).args(["-c", "plain.c", "-o"]).arg(&object));
+    run(Command::new("gcc").args(HOW).args(WHERE).args(["-c", "plain.c", "-o"]).arg(&object));
     let library = out.join("libplain.a");
     run(Command::new("ar").arg("rcs").arg(&library).arg(&object));
     println!("cargo:rustc-link-search=native={}", out.display());
@@ -39,12 +41,13 @@ fn compile_calls(out: &Path) {
 /// The plain C runner as a program; the harness is told where it stands.
 fn compile_runner(out: &Path) {
     let program = out.join("runner");
-    run(Command::new("gcc").args(FLAGS).args(["runner.c", "-o"]).arg(&program));
+    run(Command::new("gcc").args(HOW).args(WHERE).args(["runner.c", "-o"]).arg(&program));
     println!("cargo:rustc-env=BENCH_RUNNER={}", program.display());
 }
 
-/// The archive from the folder SALTBALANCE_LIB, else from the folder into which `rt staticlib` writes.
-fn link_archive() {
+/// The archive from the folder SALTBALANCE_LIB, else from the folder into which `rt staticlib` writes: a copy in which only the places at
+/// which functions may begin differ.
+fn link_archive(out: &Path) {
     println!("cargo:rerun-if-env-changed=SALTBALANCE_LIB");
     let here = PathBuf::from(env::var_os("CARGO_MANIFEST_DIR").expect("cargo sets CARGO_MANIFEST_DIR"));
     let folder = here.join(env::var_os("SALTBALANCE_LIB").filter(|given| !given.is_empty()).unwrap_or("../target/staticlib".into()));
@@ -57,7 +60,7 @@ fn link_archive() {
         eprintln!("    or leave it out with:  cargo run --release --no-default-features");
         process::exit(1);
     }
-    println!("cargo:rustc-link-search=native={}", folder.display());
+    run(Command::new("objcopy").arg("--set-section-alignment").arg(".text.*=64").arg(&archive).arg(out.join(ARCHIVE)));
     println!("cargo:rustc-link-lib=static={LIBRARY}");
 }
 

@@ -8,8 +8,8 @@
 #include <string.h>
 #include <unistd.h>
 
-/* The most bytes that a line takes: four numbers of up to twenty digits, each with a byte behind it. */
-enum { LINE_MOST = 84, LISTING_ROOM = 65536 };
+/* The most bytes that a line takes: four numbers of up to ten digits, each with a byte behind it. */
+enum { LINE_MOST = 44, LISTING_ROOM = 65536 };
 
 static char listing[LISTING_ROOM];
 static size_t listed;
@@ -26,17 +26,23 @@ static void flush(void) {
     listed = 0;
 }
 
-/* Writes a number in decimal and a byte behind it. */
-static inline void put_number(size_t number, char behind) {
-    char digits[20];
-    size_t at = sizeof digits;
-    do {
-        digits[--at] = (char)('0' + number % 10);
-        number /= 10;
-    } while (number != 0);
-    memcpy(listing + listed, digits + at, sizeof digits - at);
-    listed += sizeof digits - at;
-    listing[listed++] = behind;
+/* How many decimal digits a number has. */
+static inline size_t digit_count(uint32_t number) {
+    size_t count = 1;
+    for (uint64_t power = 10; power <= number; power *= 10) {
+        count++;
+    }
+    return count;
+}
+
+/* Writes a number in decimal and a byte behind it; answers the place behind both. */
+static inline char *put_number(char *to, uint32_t number, char behind) {
+    char *end = to + digit_count(number);
+    *end = behind;
+    for (char *at = end; at > to; number /= 10) {
+        *--at = (char)('0' + number % 10);
+    }
+    return end + 1;
 }
 
 /* Writes a record's line. */
@@ -44,10 +50,12 @@ static inline void put_line(size_t record, uint8_t tag, size_t number, size_t de
     if (listed + LINE_MOST > sizeof listing) {
         flush();
     }
-    put_number(record, ' ');
-    put_number(tag, ' ');
-    put_number(number, ' ');
-    put_number(detail, '\n');
+    char *to = listing + listed;
+    to = put_number(to, (uint32_t)record, ' ');
+    to = put_number(to, tag, ' ');
+    to = put_number(to, (uint32_t)number, ' ');
+    to = put_number(to, (uint32_t)detail, '\n');
+    listed = (size_t)(to - listing);
 }
 
 /* Writes the header. */

@@ -4,11 +4,13 @@
 use crate::call::{Call, Reply};
 use crate::random::Random;
 use crate::shape::Shape;
-use crate::tables::Tables;
+use crate::tables::{Tables, CELLS};
+use crate::wrong;
 
-/// The stages that matter here, and the answers that change what a thread holds.
+/// The stages and the kind of wait that matter here, and the answers that change what a thread holds.
 const CLOSED: u64 = 0;
 const WAITING: u64 = 5;
+const NEVER: u64 = 0;
 const OPENED: usize = 40;
 const GRANTED: usize = 45;
 
@@ -46,7 +48,7 @@ impl Churn {
     /// The next call on tables that stand so.
     pub fn next(&mut self, tables: &Tables) -> Call {
         if self.phase == Phase::Mix {
-            if let Some(call) = self.aside() {
+            if let Some(call) = self.aside(tables) {
                 return call;
             }
         }
@@ -78,27 +80,25 @@ impl Churn {
     }
 
     /// Now and then a tick, a question or a call that is wrong.
-    fn aside(&mut self) -> Option<Call> {
+    fn aside(&mut self, tables: &Tables) -> Option<Call> {
         let bytes = self.shape.bytes();
         match self.random.below(128) {
             0..=3 => Some(Call::Tick),
             4..=5 => Some(Call::Whole),
             6..=7 => Some(Call::Cover { offset: self.random.below(bytes + bytes / 8) }),
             8 => Some(Call::Map),
-            9..=11 => Some(self.wrong()),
+            9..=11 => Some(self.wrong(tables)),
             _ => None,
         }
     }
 
-    /// A call with numbers that are mostly refused.
-    fn wrong(&mut self) -> Call {
-        let thread = self.random.below(self.shape.threads + 1);
-        match self.random.below(4) {
-            0 => Call::Ask { thread, size: self.random.below(2 * self.shape.top_size), wait: self.random.below(1_300_000) as i32 - 100 },
-            1 => Call::GoOn { thread },
-            2 => Call::GiveBack { thread, id: self.random.below(4096 * 4200) / 3 + self.shape.pool },
-            _ => Call::Switch { thread },
-        }
+    /// A call with numbers on either side of the lines, mostly by the running thread.
+    fn wrong(&mut self, tables: &Tables) -> Call {
+        let running = (tables.device.running as usize).saturating_sub(1);
+        let thread = if self.random.once_in(4) { self.random.below(self.shape.threads + 1) } else { running };
+        let holds_nothing = self.held.get(thread).is_some_and(Vec::is_empty);
+        let may_wait = holds_nothing && self.may_wait(tables);
+        wrong::call(&mut self.random, self.shape, thread, may_wait)
     }
 
     /// Another thread that is not blocked runs; where all are, the clock moves on.
@@ -115,42 +115,61 @@ impl Churn {
         if tables.stage(thread) != CLOSED {
             return Call::GoOn { thread };
         }
-        let count = self.held[thread].len();
-        if count > 0 && self.gives() {
-            return Call::GiveBack { thread, id: self.held[thread][self.random.below(count)] };
+        if !self.held[thread].is_empty() && self.gives(thread) {
+            return Call::GiveBack { thread, id: self.home(thread) };
         }
         match self.phase {
             Phase::Thin => self.switch(tables),
-            _ => Call::Ask { thread, size: self.size(), wait: self.wait(thread) },
+            _ => Call::Ask { thread, size: self.size(), wait: self.wait(thread, tables) },
         }
     }
 
-    /// Whether a thread gives rather than asks: so that about half of the bytes are held.
-    fn gives(&mut self) -> bool {
+    /// The block that a thread gives back: any, but in the mixed phase every second time the largest, so that large blocks go home soon.
+    fn home(&mut self, thread: usize) -> usize {
+        let held = &self.held[thread];
+        let any = held[self.random.below(held.len())];
         match self.phase {
+            Phase::Mix if self.random.once_in(2) => held.iter().copied().min_by_key(|id| id >> 8 & 15).unwrap_or(any),
+            _ => any,
+        }
+    }
+
+    /// Whether a thread gives rather than asks: the last one always, the others so that about half of the bytes are held.
+    fn gives(&mut self, thread: usize) -> bool {
+        match self.phase {
+            _ if thread == self.shape.threads - 1 => true,
             Phase::Fill => false,
             Phase::Thin => true,
             Phase::Mix => (self.held_bytes * 2 > self.shape.bytes()) != self.random.once_in(4),
         }
     }
 
-    /// A size to ask for: the smallest block's, or in the mixed phase any level's, every second time.
+    /// A size to ask for: the smallest block's, or in the mixed phase every second time another level's, seldom the top one's.
     fn size(&mut self) -> usize {
         let deepest = self.shape.levels - 1;
         if self.phase != Phase::Mix || self.random.once_in(2) {
             return self.shape.size(deepest);
         }
-        let size = self.shape.size(self.random.below(deepest + 1));
+        let level = if deepest == 0 || self.random.once_in(16) { 0 } else { 1 + self.random.below(deepest) };
+        let size = self.shape.size(level);
         size - self.random.below(size / 4)
     }
 
-    /// How long a thread waits: some not at all, some for a time, one in four for ever.
-    fn wait(&mut self, thread: usize) -> i32 {
-        match thread % 4 {
-            0 => 0,
-            3 => -1,
-            _ => 1 + self.random.below(300) as i32,
+    /// How long a thread waits: the last one, which holds nothing when it asks, for ever; of the others half not at all, half for a time.
+    fn wait(&mut self, thread: usize, tables: &Tables) -> i32 {
+        if thread == self.shape.threads - 1 {
+            -1
+        } else if thread % 2 == 1 && self.may_wait(tables) {
+            1 + self.random.below(300) as i32
+        } else {
+            0
         }
+    }
+
+    /// Whether one more thread may wait: never more than half of them, so that the others go on.
+    fn may_wait(&self, tables: &Tables) -> bool {
+        let waiting = tables.calls.chunks(CELLS).filter(|cells| cells[2] != NEVER).count();
+        2 * (waiting + 1) <= self.shape.threads
     }
 
     /// The bytes of the block with this id.

@@ -4,8 +4,8 @@ use crate::call::Pool;
 use crate::kind::Kind;
 use crate::measure;
 use crate::shape::Shape;
-use crate::spoilt;
-use crate::starts;
+use crate::spoilt::Spoilt;
+use crate::starts::{self, Starts};
 
 /// The times of one kind of call at one shape, in nanoseconds: one for each pool.
 pub struct Row {
@@ -18,18 +18,20 @@ pub struct Figures {
     pub shape: Shape,
     pub rows: Vec<Row>,
     pub compared: usize,
-    pub spoilt: usize,
-    pub refused: usize,
+    pub spoilt: Spoilt,
 }
 
 impl Figures {
-    /// Compares the pools at a shape, then measures each kind of call there.
+    /// Compares the pools at a shape and at another one with as many blocks, then measures each kind of call.
     pub fn measure(shape: Shape, pools: &[Box<dyn Pool>], rounds: usize) -> Figures {
-        let (all, compared) = starts::starts(shape, pools);
-        let (spoilt, refused) = spoilt::compare(shape, pools, &all);
-        let row = |starts: &starts::Starts| measure::of_kind(shape, pools, starts, rounds).map(|times| Row { kind: starts.kind, times });
-        let rows = all.iter().filter_map(row).collect();
-        Figures { shape, rows, compared, spoilt, refused }
+        let mut spoilt = Spoilt::default();
+        let (beside, first) = starts::starts(shape.beside(), pools);
+        spoilt.compare(shape.beside(), pools, &beside);
+        let (all, second) = starts::starts(shape, pools);
+        spoilt.compare(shape, pools, &all);
+        let times = |starts: &Starts| measure::of_kind(shape, pools, starts, rounds).map(|times| Row { kind: starts.kind, times });
+        let rows = all.iter().filter_map(times).collect();
+        Figures { shape, rows, compared: first + second, spoilt }
     }
 
     /// The row of this kind, where the shape has such a call.

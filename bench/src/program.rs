@@ -18,14 +18,15 @@ pub struct Timed {
 }
 
 impl Timed {
-    /// Nanoseconds for a record, without what an empty script costs.
+    /// Nanoseconds for a record: the whole process less the same program's with an empty script.
     pub fn record(&self, n: usize) -> f64 {
         (self.whole[n] - self.empty[n]) / self.script.records as f64
     }
 
-    /// How much longer the proved program takes for a record.
-    pub fn ratio(&self) -> f64 {
-        self.record(0) / self.record(1)
+    /// Nanoseconds for a record, with what the program does at its start: the whole process less the plain C runner's with an empty script,
+    /// as what any process takes.
+    pub fn with_start(&self, n: usize) -> f64 {
+        (self.whole[n] - self.empty[1]) / self.script.records as f64
     }
 }
 

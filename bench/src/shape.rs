@@ -20,6 +20,11 @@ const fn measured(levels: usize, tops: usize) -> Shape {
 }
 
 impl Shape {
+    /// A shape with as many blocks whose other numbers differ: it is compared and not measured.
+    pub fn beside(self) -> Shape {
+        Shape { pool: 200, threads: 3, top_size: 3 * self.top_size, ..self }
+    }
+
     /// The number of blocks of all levels.
     pub fn blocks(self) -> usize {
         (0..self.levels).map(|level| self.tops << (2 * level)).sum()

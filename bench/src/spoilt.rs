@@ -1,6 +1,7 @@
 //! Tables that somebody wrote into, tables of wrong lengths and shapes that are not allowed: all pools must refuse alike.
 
 use crate::call::Pool;
+use crate::crafted::CHANGES;
 use crate::kind::Kind;
 use crate::random::Random;
 use crate::shape::Shape;
@@ -59,26 +60,49 @@ fn other_shape(random: &mut Random, shape: Shape) -> Shape {
     other
 }
 
-/// Makes the call of a start on spoilt tables, mostly with the right shape.
-fn try_one(random: &mut Random, shape: Shape, pools: &[Box<dyn Pool>], start: &Start) -> usize {
-    let mut tables = start.tables.clone();
-    for _ in 0..1 + random.below(2) {
-        spoil(random, &mut tables);
-    }
-    let shape = if random.once_in(16) { other_shape(random, shape) } else { shape };
-    Together::new(shape, pools, &tables).make(start.call)[0]
+/// How many calls on spoilt tables were compared, and how many of them were refused as no valid state.
+#[derive(Clone, Copy, Default)]
+pub struct Spoilt {
+    pub calls: usize,
+    pub refused: usize,
 }
 
-/// Tries spoilt tables from all starts; answers how many were tried and how many of them were refused as no valid state.
-pub fn compare(shape: Shape, pools: &[Box<dyn Pool>], all: &[Starts]) -> (usize, usize) {
-    let mut random = Random::new(2);
-    let mut count = (0, 0);
-    for start in all.iter().filter(|starts| starts.kind != Kind::Build).flat_map(|starts| &starts.list) {
-        for _ in 0..TRIED {
-            let answer = try_one(&mut random, shape, pools, start);
-            count.0 += 1;
-            count.1 += usize::from(answer == 3);
+impl Spoilt {
+    /// Makes the call of a start on these tables.
+    fn make(&mut self, shape: Shape, pools: &[Box<dyn Pool>], start: &Start, tables: &Tables) {
+        let answer = Together::new(shape, pools, tables).make(start.call)[0];
+        self.calls += 1;
+        self.refused += usize::from(answer == 3);
+    }
+
+    /// Makes the call of a start on tables into which something was written, mostly with the right shape.
+    fn written(&mut self, random: &mut Random, shape: Shape, pools: &[Box<dyn Pool>], start: &Start) {
+        let mut tables = start.tables.clone();
+        for _ in 0..1 + random.below(2) {
+            spoil(random, &mut tables);
+        }
+        let shape = if random.once_in(16) { other_shape(random, shape) } else { shape };
+        self.make(shape, pools, start, &tables);
+    }
+
+    /// Makes the call of a start on tables that break one line of validity alone.
+    fn crafted(&mut self, shape: Shape, pools: &[Box<dyn Pool>], start: &Start) {
+        for change in CHANGES {
+            let mut tables = start.tables.clone();
+            if change(shape, &mut tables).is_some() {
+                self.make(shape, pools, start, &tables);
+            }
         }
     }
-    count
+
+    /// Compares the pools on spoilt tables from all starts.
+    pub fn compare(&mut self, shape: Shape, pools: &[Box<dyn Pool>], all: &[Starts]) {
+        let mut random = Random::new(2);
+        for start in all.iter().filter(|starts| starts.kind != Kind::Build).flat_map(|starts| &starts.list) {
+            self.crafted(shape, pools, start);
+            for _ in 0..TRIED {
+                self.written(&mut random, shape, pools, start);
+            }
+        }
+    }
 }

@@ -26,6 +26,16 @@ pub struct Starts {
 }
 
 impl Starts {
+    /// Whether no call of this kind was made yet, though the shape has such calls.
+    fn is_wanted(&self, shape: Shape) -> bool {
+        let is_made = match self.kind {
+            Kind::Build => false,
+            Kind::Split | Kind::Merge => shape.levels > 1,
+            _ => true,
+        };
+        is_made && self.list.is_empty()
+    }
+
     /// Keeps this start or not, so that in the end each that was seen is kept with the same chance.
     fn offer(&mut self, random: &mut Random, call: Call, tables: &Tables) {
         self.seen += 1;
@@ -46,7 +56,7 @@ pub fn starts(shape: Shape, pools: &[Box<dyn Pool>]) -> (Vec<Starts>, usize) {
     let mut churn = Churn::new(shape);
     together.make(Call::Build);
     let mut mixed = 0;
-    while mixed < MIXED_CALLS {
+    while mixed < MIXED_CALLS || all.iter().any(|starts| starts.is_wanted(shape)) {
         let call = churn.next(together.tables());
         let before = together.tables().clone();
         let reply = together.make(call);

@@ -2,9 +2,6 @@
 
 use crate::shape::Shape;
 
-/// The most blocks that a pool may have.
-pub const MOST_BLOCKS: usize = 5456;
-
 /// A power of four.
 fn power(exponent: usize) -> usize {
     1 << (2 * exponent)

@@ -1,13 +1,13 @@
 //! The figures of the calls, shape by shape, and how they grow.
 
-use super::markdown::{nanos, ratio, table, whole};
+use super::markdown::table;
 use crate::figures::{Figures, Row};
 use crate::kind::Kind;
+use crate::words::{many, nanos, ratio, whole};
 
 /// A shape as a heading.
 fn heading(figures: &Figures) -> String {
     let shape = figures.shape;
-    let many = |count: usize, word: &str| format!("{} {word}{}", whole(count), if count == 1 { "" } else { "s" });
     format!("### {}: {}, {}\n\n", many(shape.blocks(), "block"), many(shape.levels, "level"), many(shape.tops, "top block"))
 }
 

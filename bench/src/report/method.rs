@@ -1,9 +1,9 @@
 //! What was compared and how, in words.
 
-use super::markdown::whole;
 use crate::figures::Figures;
 use crate::measure::{MOST_COPIES, SAMPLE_BYTES};
 use crate::starts::KEPT;
+use crate::words::whole;
 use crate::Rounds;
 
 /// What the three are.
@@ -14,22 +14,24 @@ The nine calls of include/saltbalance.h, three times, on the same tables:
 - **C**: bench/plain.c and what stands in bench/plain;
 - **Rust**: safe Rust in bench/src/plain.
 
-C and Rust make the same check of all tables in front of each call but build, and then the same step. They are written for speed: passes \
-without branches that the compiler turns into vector code, quarters four at a time as words, marks in one flat array. All three are \
-compiled for any x86-64 processor. Go on is measured by the step that it makes.
+C and Rust make the same check of all tables in front of each call but build, and then the same step: what is decided is the same, and how \
+is what was found quickest in each language. Passes have no branches, so that the compiler turns them into vector code, quarters are read \
+four at a time as words, and marks stand in one flat array. All three are compiled for any x86-64 processor. In all three functions begin at \
+multiples of 64 bytes, so that no figure hangs on where the linker puts a loop: the archive is linked from a copy in which only that \
+differs. Go on is measured by the step that it makes.
 ";
 
 /// How many calls were compared, and that all were alike.
 fn agreement(all: &[Figures]) -> String {
     let sum = |of: fn(&Figures) -> usize| whole(all.iter().map(of).sum());
     format!(
-        "**Same work.** Before anything is measured each makes the same history of calls on tables of its own. After each of the {} calls \
+        "**Same work.** Before anything is measured each makes the same histories of calls on tables of its own. After each of the {} calls \
          the replies and all tables are compared. Then {} calls are made on tables into which something was written, on tables of a wrong \
          length or with another shape, and compared likewise; {} of them are refused because the tables are no valid state. The run ends at \
          the first difference.\n",
         sum(|figures| figures.compared),
-        sum(|figures| figures.spoilt),
-        sum(|figures| figures.refused)
+        sum(|figures| figures.spoilt.calls),
+        sum(|figures| figures.spoilt.refused)
     )
 }
 
@@ -38,7 +40,7 @@ fn figures(rounds: usize) -> String {
     format!(
         "**States.** In that history eight threads fill the pool with smallest blocks, give half of them back here and there, and then take \
          and give blocks of all sizes. The tree is well divided, the lists are long and in no order, several threads hold blocks, and some \
-         calls are open. Each call is measured from {KEPT} states, taken evenly from those on which the history made it.\n\n\
+         calls are open. Each call is measured from up to {KEPT} states, taken evenly from those on which the history made it.\n\n\
          **Figures.** A sample is the same call on each of some copies of the tables, timed as a whole: as many copies as fill {} bytes, at \
          least one and at most {MOST_COPIES}. Record and tables are put back before each sample, outside the timed part. In each of {} rounds \
          all have their turn, and so has a call that does nothing. A time is the median of the rounds less that of the call that does \
@@ -53,9 +55,11 @@ fn programs(rounds: usize) -> String {
     format!(
         "**Scripts.** The script program reads a script of up to 65,536 bytes, and so does a plain C runner (bench/runner.c), which makes the \
          steps of bench/plain on tables of its own and never checks them as a whole; both print through a buffer of their own. First their \
-         listings are compared. Then whole processes are timed, {} times each with the script and with an empty one, in turn. The time for a \
-         record is the median with the script less the median with the empty one, divided by the number of records. What is printed goes to \
-         /dev/null.\n",
+         listings are compared. Then whole processes are timed, {} times each with the script and with an empty one, in turn; what is printed \
+         goes to /dev/null. The figures are medians. The time for a record is that of the whole process \
+         less that of the same program with an empty script, divided by the number of records. What a program does at its start is then \
+         left out; so the figures stand there once more with only the plain C runner's time for an empty script taken away from both, as \
+         the time that any process takes.\n",
         whole(rounds)
     )
 }
