@@ -23,7 +23,7 @@ use Rattle.ready.specs.Sound.{right-lengths}
 use Rattle.lines.specs.Room.{LINE-MOST}
 use Rattle.script.specs.Forms.{isPool}
 use Rattle.script.specs.Reads.{read-next, read-pool}
-use Rattle.run.specs.Sounds.{record-sound, record-goes-on}
+use Rattle.turns.specs.Sounds.{record-sound, record-goes-on}
 use Rattle.run.specs.Listed.{Begun, Listed}
 use Rattle.run.proofs.Written.{same-shape, listed-none, listed-bad, listed-record}
 

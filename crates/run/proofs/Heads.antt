@@ -1,16 +1,19 @@
 -- The first record of a script: bad, or a shape that is refused, or one that is built and the other records run.
 -- Assumes nothing.
 use mathlib.Core.Path.{_≡_, refl, sym, _∙_, ap, subst}
-use mathlib.Core.Bool.{true, false}
-use mathlib.Core.List.{List}
+use mathlib.Core.Bool.{true, false, false≢true}
+use mathlib.Core.List.{List, [], _∷_}
 use Prim.Native.Nat.{ℕ}
 use native.Mathlib.Omega.{arith}
+use types.Run.{OneOf, miss}
+use denote.Enum.Declared.{tagOf}
 use Rattle.shape.specs.declared.Shape.{Shape}
+use Rattle.rules.proofs.script.Record.{the-type}
 use Rattle.shape.specs.Limits.{allowed}
 use Rattle.rules.specs.declared.Refusal.the-variants.{ShapeNotAllowed, BadRecord}
 use Rattle.rules.specs.declared.Answer.the-variants.{Refused, Built}
 use Rattle.rules.specs.declared.script.Record.{Record}
-use Rattle.rules.specs.declared.script.Record.the-variants.{Pool}
+use Rattle.rules.specs.declared.script.Record.the-variants.{Pool, Ask, ShortAsk, GoOn, Give, Switch, Tick, Whole}
 use Rattle.rules.specs.declared.script.Read.{Read}
 use Rattle.rules.specs.Tables.{State, fresh}
 use Rattle.rules.specs.Steps.{Outcome, outcome}
@@ -18,8 +21,9 @@ use Rattle.rules.specs.Calls.{build}
 use Rattle.rules.specs.Script.{tagAt, readAt}
 use Rattle.rules.specs.Listing.{recordStep, stops, noShape}
 use Rattle.preserve.specs.Histories.{fresh-valid}
+use Rattle.script.specs.Forms.{isPool}
 use Rattle.script.specs.Reads.{read-next}
-use Rattle.run.specs.GoesOn.{GoesOn}
+use Rattle.turns.specs.GoesOn.{GoesOn}
 use Rattle.run.specs.Listed.{Begun, Listed, AllListed, Titled, Headed}
 use Rattle.run.proofs.Written.{listed-bad, listed-stop, listed-record}
 use Rattle.run.proofs.Going.{Line, line-same}
@@ -72,3 +76,14 @@ module _ {xs : List ℕ} {next : ℕ} {s : Shape} {out : List ℕ} {end : ℕ} (
     listed-built {after} {last} l =
         listed-record (g .titled .some) (g .first) (built-goes-on s a) (built s a) (p .0, p .1)
         (subst (λ (U : State). Listed xs 1 next s U more middle after last) e l)
+
+-- a record that is a shape's is not found to be another
+pub only-pool : (r : Record) → isPool r ≡ true → OneOf (1 ∷ 2 ∷ 3 ∷ 4 ∷ 5 ∷ 6 ∷ 7 ∷ []) (tagOf the-type r) → ⊥
+only-pool (Pool q) e h = miss (1 ∷ 2 ∷ 3 ∷ 4 ∷ 5 ∷ 6 ∷ 7 ∷ []) 0 tt h
+only-pool (Ask t size m) e h = false≢true e
+only-pool (ShortAsk t size) e h = false≢true e
+only-pool (GoOn t) e h = false≢true e
+only-pool (Give t i) e h = false≢true e
+only-pool (Switch t) e h = false≢true e
+only-pool Tick e h = false≢true e
+only-pool Whole e h = false≢true e

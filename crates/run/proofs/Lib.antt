@@ -1,4 +1,3 @@
-pub mod Named
 pub mod Written
 pub mod Going
 pub mod Heads

@@ -21,7 +21,7 @@ use Rattle.rules.specs.Script.{tagAt, readAt}
 use Rattle.rules.specs.Listing.{recordStep, shapeAfter, line, stops, readLines, lines}
 use Rattle.script.specs.Forms.{isPool}
 use Rattle.script.specs.Reads.{read-next}
-use Rattle.run.specs.GoesOn.{GoesOn}
+use Rattle.turns.specs.GoesOn.{GoesOn}
 use Rattle.run.specs.Listed.{LISTING-MOST, Listed}
 
 -- no record but a shape's changes the shape

@@ -1,3 +1,1 @@
-pub mod GoesOn
-pub mod Sounds
 pub mod Listed

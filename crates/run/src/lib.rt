@@ -1,7 +1,6 @@
 // A whole script to its whole listing.
 mod first;
 mod rest;
-mod turns;
 
 use lines::LINE_MOST;
 use rules::Answer;

@@ -1,10 +1,10 @@
 // The records of a script behind its shape.
-use crate::turns::turn;
 use rules::Answer;
 use rules::Device;
 use rules::Refusal;
 use rules::script::Read;
 use shape::Shape;
+use turns::turn;
 ghost use Rattle.rules.specs.Tables.{state};
 ghost use Rattle.run.specs.Listed.{Begun, Listed};
 

@@ -3,8 +3,7 @@
 use mathlib.Core.Path.{sym, _∙_}
 use native.Mathlib.Nat.{le-refl}
 use Rattle.script.specs.Reads.{read-first}
-use Rattle.run.proofs.Named.{only-pool}
-use Rattle.run.proofs.Heads.{listed-first, heads}
+use Rattle.run.proofs.Heads.{listed-first, heads, only-pool}
 use borrow.Author.Needs.{needs}
 use Rattle.run.proofs.first.run_first.Statement.{statement}
 use Rattle.run.proofs.first.run_first.Tie as tie

@@ -1,10 +1,10 @@
--- `run::turns::turn` meets its contract: sound tables give each call what it needs, and the record that was found names the call.
+-- `turns::turn` meets its contract: sound tables give each call what it needs, and the record that was found names the call.
 -- Assumes nothing.
 use Rattle.ready.specs.Sound.{calls-length, give-ready, switch-ready, tick-ready, whole-ready}
-use Rattle.run.proofs.Named.{no-pool, asks, asks-shortly, goes-on, gives, switches, ticks, wholly}
+use Rattle.turns.proofs.Named.{no-pool, asks, asks-shortly, goes-on, gives, switches, ticks, wholly}
 use borrow.Author.Needs.{needs}
-use Rattle.run.proofs.turns.turn.Statement.{statement}
-use Rattle.run.proofs.turns.turn.Tie as tie
+use Rattle.turns.proofs.turn.Statement.{statement}
+use Rattle.turns.proofs.turn.Tie as tie
 
 enum-told : tie.Need-enum-told
 enum-told c = search needs

@@ -13,7 +13,7 @@ use Rattle.history.specs.History as history
 use Rattle.history.specs.History.{stepOn}
 use Rattle.preserve.specs.Histories.{steps-valid}
 use Rattle.script.specs.Forms.{isPool}
-use Rattle.run.specs.GoesOn.{GoesOn, ask-goes-on, go-on-goes-on, give-goes-on, switch-goes-on, tick-goes-on, whole-goes-on}
+use Rattle.turns.specs.GoesOn.{GoesOn, ask-goes-on, go-on-goes-on, give-goes-on, switch-goes-on, tick-goes-on, whole-goes-on}
 
 module _ {s : Shape} {T : State} (g : Sound s T) where
   -- each record but a shape's is a step

@@ -1,18 +1,15 @@
 -- A record that was found names its step: what the call promises of sound tables is what the record's step is.
 -- Assumes nothing.
 use mathlib.Core.Path.{_≡_, sym, _∙_, ap}
-use mathlib.Core.Bool.{true, false, true≢false, false≢true}
-use mathlib.Core.List.{List, [], _∷_}
+use mathlib.Core.Bool.{true, false, true≢false}
+use mathlib.Core.List.{List}
 use Prim.Native.Nat.{ℕ}
-use types.Run.{OneOf, miss}
-use denote.Enum.Declared.{tagOf}
 use Rattle.shape.specs.declared.Shape.{Shape}
 use Rattle.shape.specs.declared.time.Millis.{Millis}
 use Rattle.rules.specs.declared.Device.{Device}
 use Rattle.rules.specs.declared.Answer.{Answer}
 use Rattle.rules.specs.declared.script.Record.{Record}
 use Rattle.rules.specs.declared.script.Record.the-variants.{Pool, Ask, ShortAsk, GoOn, Give, Switch, Tick, Whole}
-use Rattle.rules.proofs.script.Record.{the-type}
 use Rattle.rules.specs.Tables.{State, state}
 use Rattle.rules.specs.Facts.{Sound}
 use Rattle.rules.specs.Steps.{Outcome, outcome}
@@ -25,17 +22,6 @@ use Rattle.script.specs.Forms.{isPool}
 -- a record that is no shape's is not found to be one
 pub no-pool : {r : Record} (q : Shape) → isPool r ≡ false → r ≡ Pool q → ⊥
 no-pool q e f = true≢false (sym (ap isPool f) ∙ e)
-
--- and one that is a shape's is not found to be another
-pub only-pool : (r : Record) → isPool r ≡ true → OneOf (1 ∷ 2 ∷ 3 ∷ 4 ∷ 5 ∷ 6 ∷ 7 ∷ []) (tagOf the-type r) → ⊥
-only-pool (Pool q) e h = miss (1 ∷ 2 ∷ 3 ∷ 4 ∷ 5 ∷ 6 ∷ 7 ∷ []) 0 tt h
-only-pool (Ask t size m) e h = false≢true e
-only-pool (ShortAsk t size) e h = false≢true e
-only-pool (GoOn t) e h = false≢true e
-only-pool (Give t i) e h = false≢true e
-only-pool (Switch t) e h = false≢true e
-only-pool Tick e h = false≢true e
-only-pool Whole e h = false≢true e
 
 -- what ask promises of the calls alone, whatever the other tables
 abbrev Asks : Shape → State → ℕ → ℕ → Millis → Answer → List ℕ → Type 0
