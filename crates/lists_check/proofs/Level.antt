@@ -1,19 +1,19 @@
 -- What validity says of one level, in the order in which it is tried.
 -- Assumes nothing.
-use mathlib.Core.Path.{_≡_, refl, sym, _∙_, ap}
+use mathlib.Core.Path.{_≡_, refl, sym, _∙_, ap, ap₂}
 use mathlib.Core.Bool.{Bool, true, false, _&&_, _||_}
 use mathlib.Core.List.{List}
-use Prim.Native.Nat.{ℕ, _+_, _-_, _≤_, _<_}
+use Prim.Native.Nat.{ℕ, zero, suc, _+_, _-_, _≤_, _<_}
 use native.Mathlib.Decide.{decLt}
 use native.Mathlib.Omega.{arith}
 use lib.ListN.{length, getD, take, drop, length-drop}
-use lib.Seq.{getD-drop, length-take-le, take-all}
-use lib.Dec.{eqb, ltb}
-use borrow.Author.Tests.{eq-eqb, ne-eqb, le-ltb, lt-ltb, le-leb, lt-leb}
-use Rattle.laws.specs.Tests.{bit, every, every-at, every-of, every-same, tally}
+use lib.Seq.{getD-drop, take-all}
+use lib.Dec.{eqb, ltb, leb}
+use borrow.Author.Tests.{ne-eqb, le-ltb, lt-ltb, le-leb, lt-leb}
+use Rattle.laws.specs.Tests.{bit, bit-most, every, every-at, every-of, every-same, every-both}
 use Rattle.laws.specs.Lists.{times}
-use Rattle.laws.specs.Times.{same-test, times-once}
-use Rattle.lists_check.specs.Level.{zeros, below, ends, free, levelValid}
+use Rattle.laws.specs.Times.{same-test}
+use Rattle.lists_check.specs.Level.{zeros, below, once, ends, free, levelValid}
 
 -- a list longer than its cells
 pub level-long : (states cells : List ℕ) (used : ℕ) → length cells < used → false ≡ levelValid states cells used
@@ -76,28 +76,26 @@ pub record Tried (states cells : List ℕ) (used : ℕ) : Type 0 where
   pub rest : zeros (behind cells used) ≡ true
   pub inside : below (take used cells) (length states) ≡ true
 
--- then what is left: as many members as FREE blocks, and those named are the FREE ones
-level-rest :
-    {states cells : List ℕ} {used : ℕ} → Tried states cells used →
-    levelValid states cells used
-    ≡ (eqb used (tally (length states) (free states))
-    && every (length states) (λ b. eqb (bit (ltb 0 (times b (take used cells)))) (bit (free states b))))
-unfolding levelValid
-level-rest {states} {cells} {used} t =
-    rw (ends-zeros cells used (t .fits), t .rest, t .inside, times-once (length states) (free states) (take used cells) (t .inside), length-take-le used cells (t .fits))
+-- named once exactly if FREE: at most once, and at all exactly if FREE
+once-named : (t : ℕ) (f : Bool) → eqb t (bit f) ≡ (leb t 1 && eqb (bit (ltb 0 t)) (bit f))
+once-named zero true = refl
+once-named zero false = refl
+once-named (suc zero) true = refl
+once-named (suc zero) false = refl
+once-named (suc (suc t)) f = rw (ne-eqb (suc (suc t)) (bit f) (more f), lt-leb (suc (suc t)) 1 (omega arith))
+  where
+    more : (f : Bool) → suc (suc t) ≡ bit f → ⊥
+    more f e = omega (arith, e, bit-most f)
 
--- more members or fewer
-pub level-count :
-    {states cells : List ℕ} {used : ℕ} → Tried states cells used → (used ≡ tally (length states) (free states) → ⊥) →
-    false ≡ levelValid states cells used
-level-count t d = sym (level-rest t ∙ rw (ne-eqb _ _ d))
-
--- as many members: the marks decide
+-- then what is left: no member twice, and those named are the FREE ones, as the marks say
 pub level-marks :
-    {states cells : List ℕ} {used : ℕ} (marks : List ℕ) → Tried states cells used →
-    used ≡ tally (length states) (free states) →
-    ((b : ℕ) → b < length states → getD marks b 0 ≡ bit (ltb 0 (times b (take used cells)))) →
-    every (length states) (λ b. eqb (getD marks b 0) (bit (free states b))) ≡ levelValid states cells used
-level-marks {states} marks t d m =
-    every-same _ _ _ (λ b l. ap (λ (x : ℕ). eqb x (bit (free states b))) (m b l))
-    ∙ sym (level-rest t ∙ rw (eq-eqb _ _ d))
+    {states cells : List ℕ} {used : ℕ} (marks : List ℕ) {ok : Bool} → Tried states cells used →
+    (ok ≡ once (take used cells) (length states))
+    × ((b : ℕ) → b < length states → getD marks b 0 ≡ bit (ltb 0 (times b (take used cells)))) →
+    (ok && every (length states) (λ b. eqb (getD marks b 0) (bit (free states b)))) ≡ levelValid states cells used
+unfolding levelValid
+level-marks {states} {cells} {used} marks {ok} t m =
+    ap₂ _&&_ (m .0) (every-same _ _ _ (λ b l. ap (λ (x : ℕ). eqb x (bit (free states b))) (m .1 b l)))
+    ∙ (sym (every-both (length states) _ _)
+    ∙ (every-same _ _ _ (λ b l. sym (once-named (times b (take used cells)) (free states b)))
+    ∙ rw (ends-zeros cells used (t .fits), t .rest, t .inside)))

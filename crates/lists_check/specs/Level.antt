@@ -21,6 +21,10 @@ zeros cells = every (length cells) (λ i. eqb (getD cells i 0) 0)
 abbrev pub below : List ℕ → ℕ → Bool
 below members n = every (length members) (λ i. ltb (getD members i 0) n)
 
+-- no block below n is named twice
+abbrev pub once : List ℕ → ℕ → Bool
+once members n = every n (λ b. leb (times b members) 1)
+
 -- the list is as long as its cells at most, and the places behind its end hold zero
 abbrev pub ends : List ℕ → ℕ → Bool
 ends cells used = leb used (length cells) && every (length cells) (λ i. ltb i used || eqb (getD cells i 0) 0)

@@ -6,12 +6,12 @@ ghost use mathlib.Core.Bool.{true, _&&_};
 ghost use Prim.Native.Nat.{ℕ, _+_, _<_, _≤_};
 ghost use lib.ListN.{length, getD};
 ghost use lib.Dec.{eqb, ltb};
-ghost use Rattle.laws.specs.Tests.{bit, every, tally};
+ghost use Rattle.laws.specs.Tests.{bit, every};
 ghost use Rattle.laws.specs.Lists.{times};
 ghost use Rattle.shape.specs.Limits.{allowed};
 ghost use Rattle.shape.specs.Blocks.{blocks};
 ghost use Rattle.rules.specs.Valid.{listEnds, freeListed};
-ghost use Rattle.lists_check.specs.Level.{zeros, below, free, OneLevel, AllLevels, levelValid};
+ghost use Rattle.lists_check.specs.Level.{zeros, below, once, free, OneLevel, AllLevels, levelValid};
 
 // A pool of at most so many blocks is marked in a short array.
 const FEW_BLOCKS: usize = 341;
@@ -42,30 +42,20 @@ fn all_below(members: &[u16], bound: u16) -> bool
     ok
 }
 
-// How many blocks of a level are FREE.
-fn count_free(states: &[u8]) -> u16
-    requires { ⌜ length (now states) ≤ 4096 ⌝ }
-    ensures { λ r. ⌜ r ≡ tally (length (now (states .entry))) (free (now (states .entry))) ⌝ }
-{
-    let mut sum: u16 = 0;
-    let mut i = 0;
-    while i < states.len() {
-        sum = sum + (states[i] == rules::FREE) as u16;
-        i += 1;
-    }
-    sum
-}
-
-// Marks the blocks that a list names.
-fn mark(members: &[u16], marks: &mut [u8])
+// Marks the blocks that a list names, and says whether it names each only once.
+fn mark(members: &[u16], marks: &mut [u8]) -> bool
     requires { ⌜ (below (now members) (length (now marks)) ≡ true) × ((b : ℕ) → getD (now marks) b 0 ≡ 0) ⌝ }
-    ensures { λ r. ⌜ ((b : ℕ) → b < length (now (marks .entry)) → getD (now (marks .exit)) b 0 ≡ bit (ltb 0 (times b (now (members .entry))))) ⌝ }
+    ensures { λ r. ⌜ (r ≡ once (now (members .entry)) (length (now (marks .entry)))) × ((b : ℕ) → b < length (now (marks .entry)) → getD (now (marks .exit)) b 0 ≡ bit (ltb 0 (times b (now (members .entry))))) ⌝ }
 {
+    let mut ok = true;
     let mut i = 0;
     while i < members.len() {
-        marks[members[i] as usize] = 1;
+        let b = members[i] as usize;
+        ok = ok & (marks[b] == 0);
+        marks[b] = 1;
         i += 1;
     }
+    ok
 }
 
 // Whether the blocks marked are those that are FREE.
@@ -98,11 +88,8 @@ fn level_valid(states: &[u8], cells: &[u16], used: u16, marks: &mut [u8]) -> boo
     if !all_below(members, states.len() as u16) {
         return false;
     }
-    if used != count_free(states) {
-        return false;
-    }
-    mark(members, marks);
-    agree(states, marks)
+    let ok = mark(members, marks);
+    ok & agree(states, marks)
 }
 
 // The lists of all levels, with unset marks for all blocks.

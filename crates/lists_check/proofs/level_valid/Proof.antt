@@ -1,10 +1,11 @@
 -- `lists_check::level_valid` meets its contract: what validity says of one level, in the order in which the code tries it.
 -- Assumes nothing.
-use borrow.Author.Needs.{needs}
-use mathlib.Core.Path.{sym, _∙_}
+use mathlib.Core.Path.{sym, _∙_, ap}
+use mathlib.Core.Bool.{Bool, _&&_}
 use lib.Seq.{length-take-le}
 use borrow.Author.Tests.{not-true, not-false}
-use Rattle.lists_check.proofs.Level.{level-long, level-zeros, level-below, Tried, level-count, level-marks}
+use Rattle.lists_check.proofs.Level.{level-long, level-zeros, level-below, Tried, level-marks}
+use borrow.Author.Needs.{needs}
 use Rattle.lists_check.proofs.level_valid.Statement.{statement}
 use Rattle.lists_check.proofs.level_valid.Tie as tie
 
@@ -50,14 +51,8 @@ all-below-requires c κs = search needs
 returns-3 : tie.Need-returns-3
 returns-3 c = level-below _ _ _ (sym (c .before .all-below .ensures) ∙ not-true _ (c .if3 .taken))
 
-count-free-requires : tie.Need-count-free-requires
-count-free-requires c κs = search needs
-
-returns-4 : tie.Need-returns-4
-returns-4 c = level-count (tried (c .before .before)) (λ e. c .if4 .taken (e ∙ sym (c .before .count-free .ensures)))
-
 mark-requires : tie.Need-mark-requires
-mark-requires c κs = (rw (c .before .before .before .before .before .before .before .before .before .before .before .before .before .pre .marks-long) (tried (c .before .before .before) .inside), c .before .before .before .before .before .before .before .before .before .before .before .before .before .pre .unset)
+mark-requires c κs = (rw (c .before .before .before .before .before .before .before .before .before .before .before .pre .marks-long) (tried (c .before) .inside), c .before .before .before .before .before .before .before .before .before .before .before .pre .unset)
 
 agree-requires : tie.Need-agree-requires
 agree-requires c κs = search needs
@@ -65,12 +60,11 @@ agree-requires c κs = search needs
 same-length : tie.Need-same-length
 same-length c = search needs
 
-returns-5 : tie.Need-returns-5
-returns-5 c =
-    c .agree .ensures
-    ∙ level-marks (c .before .before .before .before .mark .last .1 .0) (tried (c .before .before .before .before .before .before .before .before))
-    (c .before .before .before .before .before .before .if4 .left ∙ c .before .before .before .before .before .before .before .count-free .ensures)
-    (λ b l. c .before .before .before .before .mark .ensures b (rw (c .before .before .before .before .before .before .before .before .before .before .before .before .before .before .before .before .before .before .pre .marks-long) l))
+returns-4 : tie.Need-returns-4
+returns-4 c =
+    ap (λ (b : Bool). c .before .before .before .before .mark .result && b) (c .agree .ensures)
+    ∙ level-marks (c .before .before .before .before .mark .last .1 .0) (tried (c .before .before .before .before .before .before))
+    (rw (c .before .before .before .before .before .before .before .before .before .before .before .before .before .before .before .before .pre .marks-long) at (c .before .before .before .before .mark .ensures))
 
 pub level-valid-spec : {M : Type 1} → statement M
 level-valid-spec =
@@ -87,9 +81,7 @@ level-valid-spec =
     cast-all-below
     all-below-requires
     returns-3
-    count-free-requires
-    returns-4
     mark-requires
     agree-requires
     same-length
-    returns-5)
+    returns-4)

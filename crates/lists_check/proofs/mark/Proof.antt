@@ -1,33 +1,37 @@
--- `lists_check::mark` meets its contract: of the members passed, and of no other block, the marks are set.
+-- `lists_check::mark` meets its contract: of the members passed, and of no other block, the marks are set, and the flag says whether one was
+-- met twice.
 -- Assumes nothing.
-use native.Mathlib.Omega.{arith}
-use borrow.Author.Needs.{needs}
 use Prim.Native.Nat.{_-_}
 use lib.ListN.{length}
 use Rattle.lists_check.proofs.Laws.{Marked, mark-none, mark-at, mark-more, mark-end}
 use Rattle.lists_check.proofs.mark.Statement.{statement}
 use Rattle.lists_check.proofs.mark.Tie as tie
+use native.Mathlib.Omega.{arith}
+use borrow.Author.Needs.{needs}
 
 abbrev Inv-loop : tie.InvT-loop
-Inv-loop members marks₀ i₀ marks i = Marked members marks (length marks₀) i
+Inv-loop members marks₀ ok₀ i₀ marks ok i = Marked members marks (length marks₀) i ok
 
 abbrev μ-loop : tie.MeasureT-loop
-μ-loop members marks₀ i₀ marks i = length members - i
+μ-loop members marks₀ ok₀ i₀ marks ok i = length members - i
 
 loop-holds : tie.Need-loop-holds Inv-loop μ-loop
 loop-holds c = mark-none _ _ (c .pre)
 
-mul-marks : tie.Need-mul-marks Inv-loop μ-loop
-mul-marks c = search needs
+mul-b : tie.Need-mul-b Inv-loop μ-loop
+mul-b c = search needs
 
-shared-slice-read-marks : tie.Need-shared-slice-read-marks Inv-loop μ-loop
-shared-slice-read-marks c = omega arith
+shared-slice-read-b : tie.Need-shared-slice-read-b Inv-loop μ-loop
+shared-slice-read-b c = omega arith
 
-cast-marks : tie.Need-cast-marks Inv-loop μ-loop
-cast-marks c = omega (arith, c .shared-slice-known .given (c .before .before .loop .i))
+cast-b : tie.Need-cast-b Inv-loop μ-loop
+cast-b c = omega (arith, c .shared-slice-known .given (c .before .before .loop .i))
+
+slice-read-ok : tie.Need-slice-read-ok Inv-loop μ-loop
+slice-read-ok c = mark-at (c .before .before .before .loop .inv) (c .before .before .loop-test .taken)
 
 slice-write-marks : tie.Need-slice-write-marks Inv-loop μ-loop
-slice-write-marks c = mark-at (c .before .before .loop .inv) (c .before .loop-test .taken)
+slice-write-marks c = mark-at (c .before .before .before .loop .inv) (c .before .before .loop-test .taken)
 
 add-i : tie.Need-add-i Inv-loop μ-loop
 add-i c = omega arith
@@ -36,7 +40,7 @@ loop-less : tie.Need-loop-less Inv-loop μ-loop
 loop-less c = omega arith
 
 loop-again : tie.Need-loop-again Inv-loop μ-loop
-loop-again c = mark-more (c .before .before .loop .inv) (c .before .loop-test .taken)
+loop-again c = mark-more (c .before .before .before .loop .inv) (c .before .before .loop-test .taken)
 
 same-length : tie.Need-same-length Inv-loop μ-loop
 same-length c = c .before .loop .inv .long
@@ -51,9 +55,10 @@ mark-spec =
     Inv-loop
     μ-loop
     loop-holds
-    mul-marks
-    shared-slice-read-marks
-    cast-marks
+    mul-b
+    shared-slice-read-b
+    cast-b
+    slice-read-ok
     slice-write-marks
     add-i
     loop-less
