@@ -2,7 +2,7 @@
 //! changes no figure, and all times of a figure come from the same moment.
 
 /// How many passes are made over all that is measured.
-pub const PASSES: usize = 10;
+pub const PASSES: usize = 20;
 
 /// The times of the quietest pass so far, in nanoseconds.
 #[derive(Clone, Default)]
