@@ -23,7 +23,7 @@ pub struct Arguments {
 
 /// Reads the words; anything else ends the run with the usage.
 pub fn arguments() -> Arguments {
-    let mut given = Arguments { rounds: Rounds { calls: 102, scripts: 10 }, write: None };
+    let mut given = Arguments { rounds: Rounds { calls: 102, scripts: 25 }, write: None };
     let mut words = std::env::args().skip(1);
     while let Some(word) = words.next() {
         let understood = match word.as_str() {

@@ -10,33 +10,49 @@ use std::path::{Path, PathBuf};
 use std::process::{self, Command, Stdio};
 use std::time::Instant;
 
-/// A script and the times of whole processes in nanoseconds: of the proved program, of the plain C runner, and of both with an empty
-/// script.
+/// A script and the times of whole processes in nanoseconds.
 pub struct Timed {
     pub script: Script,
     times: Quietest,
 }
 
+/// How much of a script a process is handed.
+#[derive(Clone, Copy)]
+pub enum Part {
+    Whole,
+    Half,
+    Empty,
+}
+
+impl Part {
+    const ALL: [Part; 3] = [Part::Whole, Part::Half, Part::Empty];
+
+    /// So many of a script's records.
+    fn records(self, script: &Script) -> usize {
+        match self {
+            Part::Whole => script.records(),
+            Part::Half => script.records() / 2,
+            Part::Empty => 0,
+        }
+    }
+}
+
 impl Timed {
-    /// The whole process of a program: 0 for the proved one, 1 for the plain C runner.
-    pub fn whole(&self, n: usize) -> f64 {
-        self.times.times()[n]
+    /// The time of a process that is handed a part: program 0 is the proved one, 1 the plain C runner.
+    pub fn process(&self, part: Part, program: usize) -> f64 {
+        self.times.times()[2 * part as usize + program]
     }
 
-    /// The same with an empty script.
-    pub fn empty(&self, n: usize) -> f64 {
-        self.times.times()[2 + n]
-    }
-
-    /// Nanoseconds for a record: the whole process less the same program's with an empty script.
-    pub fn record(&self, n: usize) -> f64 {
-        (self.whole(n) - self.empty(n)) / self.script.records as f64
+    /// Nanoseconds for a record, of those in the script's second half.
+    pub fn record(&self, program: usize) -> f64 {
+        let records = Part::Whole.records(&self.script) - Part::Half.records(&self.script);
+        (self.process(Part::Whole, program) - self.process(Part::Half, program)) / records as f64
     }
 
     /// Nanoseconds for a record, with what the program does at its start: the whole process less the plain C runner's with an empty script,
     /// as what any process takes.
-    pub fn with_start(&self, n: usize) -> f64 {
-        (self.whole(n) - self.empty(1)) / self.script.records as f64
+    pub fn with_start(&self, program: usize) -> f64 {
+        (self.process(Part::Whole, program) - self.process(Part::Empty, 1)) / Part::Whole.records(&self.script) as f64
     }
 }
 
@@ -69,13 +85,12 @@ fn compare(programs: [&Path; 2], script: &Script, file: &Path) -> io::Result<()>
     Ok(())
 }
 
-/// Times a script by both programs: the medians of some rounds, in each of which both have their turn with the script and with an empty
-/// one.
-fn time(programs: [&Path; 2], full: &Path, empty: &Path, rounds: usize) -> io::Result<Vec<f64>> {
-    let mut samples = vec![vec![]; 4];
+/// Times a script by both programs: the medians of some rounds, in each of which both have their turn with each part of the script.
+fn time(programs: [&Path; 2], files: &[PathBuf], rounds: usize) -> io::Result<Vec<f64>> {
+    let mut samples = vec![vec![]; 2 * files.len()];
     for _ in 0..rounds {
         for (n, samples) in samples.iter_mut().enumerate() {
-            samples.push(once(programs[n % 2], if n < 2 { full } else { empty })?);
+            samples.push(once(programs[n % 2], &files[n / 2])?);
         }
     }
     Ok(samples.into_iter().map(median).collect())
@@ -83,15 +98,16 @@ fn time(programs: [&Path; 2], full: &Path, empty: &Path, rounds: usize) -> io::R
 
 /// Times all scripts at the smallest and at the largest shape, in files of this folder.
 fn in_folder(programs: [&Path; 2], folder: &Path, rounds: usize) -> io::Result<Vec<Timed>> {
-    let (full, empty) = (folder.join("full"), folder.join("empty"));
-    fs::write(&empty, [])?;
     let scripts = scripts(SHAPES[0]).into_iter().chain(scripts(SHAPES[SHAPES.len() - 1]));
     let mut all: Vec<Timed> = scripts.map(|script| Timed { script, times: Quietest::default() }).collect();
     for _ in 0..PASSES {
-        for timed in &mut all {
-            fs::write(&full, &timed.script.bytes)?;
-            compare(programs, &timed.script, &full)?;
-            timed.times.offer(time(programs, &full, &empty, rounds)?);
+        for Timed { script, times } in &mut all {
+            let files = Part::ALL.map(|part| folder.join((part as usize).to_string()));
+            for (part, file) in Part::ALL.iter().zip(&files) {
+                fs::write(file, script.first(part.records(script)))?;
+                compare(programs, script, file)?;
+            }
+            times.offer(time(programs, &files, rounds)?);
         }
     }
     Ok(all)
