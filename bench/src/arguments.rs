@@ -5,10 +5,10 @@ use std::process;
 
 const USAGE: &str = "bench [--rounds CALLS SCRIPTS] [--write FILE]
 
-    --rounds CALLS SCRIPTS    how often each call and each script is timed
+    --rounds CALLS SCRIPTS    how often each call and each script is timed in each of twenty passes
     --write FILE              write the document to this file too";
 
-/// How often each call and each script is timed.
+/// How often each call and each script is timed in a pass.
 #[derive(Clone, Copy, Debug)]
 pub struct Rounds {
     pub calls: usize,
@@ -23,7 +23,7 @@ pub struct Arguments {
 
 /// Reads the words; anything else ends the run with the usage.
 pub fn arguments() -> Arguments {
-    let mut given = Arguments { rounds: Rounds { calls: 2000, scripts: 200 }, write: None };
+    let mut given = Arguments { rounds: Rounds { calls: 102, scripts: 25 }, write: None };
     let mut words = std::env::args().skip(1);
     while let Some(word) = words.next() {
         let understood = match word.as_str() {

@@ -32,7 +32,7 @@ impl Measured {
 /// The ratio to plain C of each checked call at the largest shape.
 pub fn calls(all: &[Figures]) -> Vec<Measured> {
     let largest = all.last().expect("there are five shapes");
-    let checked = largest.rows.iter().filter(|row| row.kind != Kind::Build);
+    let checked = largest.rows().into_iter().filter(|row| row.kind != Kind::Build);
     checked.map(|row| Measured { what: row.kind.name().to_string(), ratio: row.times[0] / row.times[1], goal: CALL }).collect()
 }
 

@@ -11,8 +11,10 @@ mod kind;
 mod linked;
 mod machine;
 mod measure;
+mod patch;
 mod plain;
 mod program;
+mod quietest;
 mod random;
 mod report;
 mod script;
@@ -28,6 +30,7 @@ use arguments::Rounds;
 use call::Pool;
 use figures::Figures;
 use program::Timed;
+use quietest::PASSES;
 use std::{fs, io};
 
 /// The pools to compare, the proved one first.
@@ -40,13 +43,15 @@ fn pools() -> Vec<Box<dyn Pool>> {
     ]
 }
 
-/// The calls at each shape.
+/// The calls at each shape: compared at all of them first, then measured in passes over all of them.
 fn calls(pools: &[Box<dyn Pool>], rounds: usize) -> Vec<Figures> {
-    let measure = |shape: shape::Shape| {
-        eprintln!("bench: the calls on {}", words::many(shape.blocks(), "block"));
-        Figures::measure(shape, pools, rounds)
-    };
-    shape::SHAPES.into_iter().map(measure).collect()
+    eprintln!("bench: comparing the calls");
+    let mut all: Vec<Figures> = shape::SHAPES.iter().map(|&shape| Figures::compare(shape, pools)).collect();
+    for pass in 1..=PASSES {
+        eprintln!("bench: measuring the calls, pass {pass} of {PASSES}");
+        all.iter_mut().for_each(|figures| figures.measure(pools, rounds));
+    }
+    all
 }
 
 /// The scripts, where the program is there to run them.
@@ -55,7 +60,7 @@ fn scripts(rounds: usize) -> io::Result<Option<Vec<Timed>>> {
         eprintln!("bench: the script program is left out: target/bin/saltbalance is missing (./saltbalance at the root builds it)");
         return Ok(None);
     };
-    eprintln!("bench: the scripts");
+    eprintln!("bench: measuring the scripts");
     program::measure(&program, rounds).map(Some)
 }
 

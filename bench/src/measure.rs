@@ -1,8 +1,9 @@
 //! Nanoseconds for a call.
 
 use crate::call::{Nothing, Pool};
+use crate::patch::Patch;
 use crate::shape::Shape;
-use crate::starts::{Start, Starts};
+use crate::starts::Start;
 use crate::tables::Tables;
 use std::hint::black_box;
 use std::time::Instant;
@@ -14,17 +15,23 @@ pub const MOST_COPIES: usize = 64;
 /// How many places on the stack are tried in turn.
 const STEPS: usize = 17;
 
-/// One sample: the same call on each copy of the tables, timed as a whole, in nanoseconds. The copies are put back first.
-fn sample(pool: &dyn Pool, shape: Shape, start: &Start, copies: &mut [Tables]) -> f64 {
-    for copy in copies.iter_mut() {
-        copy.copy_from(&start.tables);
-    }
+/// One sample: the same call on each copy of the tables, timed as a whole, in nanoseconds. Then the call is undone.
+fn sample(pool: &dyn Pool, shape: Shape, start: &Start, copies: &mut [Tables], patch: &Patch) -> f64 {
     let call = black_box(start.call);
     let begun = Instant::now();
     for copy in copies.iter_mut() {
         black_box(pool.make(call, shape, copy));
     }
-    begun.elapsed().as_nanos() as f64
+    let time = begun.elapsed().as_nanos() as f64;
+    copies.iter_mut().for_each(|copy| patch.undo(copy));
+    time
+}
+
+/// What undoes the call of a start.
+fn undoes(pool: &dyn Pool, shape: Shape, start: &Start) -> Patch {
+    let mut after = start.tables.clone();
+    pool.make(start.call, shape, &mut after);
+    Patch::new(&start.tables, &after)
 }
 
 /// Does some work so many steps further down the stack. Where the stack lies beside the tables moves a time by as much as a half; over all
@@ -47,33 +54,19 @@ pub fn median(mut numbers: Vec<f64>) -> f64 {
 
 /// The time of a call from one start by each pool: the median of the rounds, less that of a call that does nothing. In a round each pool
 /// has its turn, beginning with another one each time.
-fn from_start(shape: Shape, pools: &[Box<dyn Pool>], start: &Start, rounds: usize) -> Vec<f64> {
+pub fn from_start(shape: Shape, pools: &[Box<dyn Pool>], start: &Start, rounds: usize) -> Vec<f64> {
     let copies = (SAMPLE_BYTES / start.tables.bytes()).clamp(1, MOST_COPIES);
     let mut tables = vec![start.tables.clone(); copies];
     let turns: Vec<&dyn Pool> = pools.iter().map(|pool| &**pool).chain([&Nothing as &dyn Pool]).collect();
-    let mut samples = vec![Vec::with_capacity(rounds); turns.len()];
+    let patch = undoes(&*pools[0], shape, start);
+    let mut samples = vec![vec![]; turns.len()];
     for round in 0..rounds {
         for turn in 0..turns.len() {
             let n = (round + turn) % turns.len();
-            samples[n].push(down(round % STEPS, &mut || sample(turns[n], shape, start, &mut tables)));
+            samples[n].push(down(round % STEPS, &mut || sample(turns[n], shape, start, &mut tables, &patch)));
         }
     }
     let mut medians: Vec<f64> = samples.into_iter().map(median).collect();
     let nothing = medians.pop().expect("the last turn does nothing");
     medians.into_iter().map(|whole| (whole - nothing) / copies as f64).collect()
-}
-
-/// The time of a call of this kind by each pool: the mean over its starts. None where the shape has no such call.
-pub fn of_kind(shape: Shape, pools: &[Box<dyn Pool>], starts: &Starts, rounds: usize) -> Option<Vec<f64>> {
-    let count = starts.list.len();
-    if count == 0 {
-        return None;
-    }
-    let mut sums = vec![0.0; pools.len()];
-    for start in &starts.list {
-        for (sum, time) in sums.iter_mut().zip(from_start(shape, pools, start, rounds)) {
-            *sum += time;
-        }
-    }
-    Some(sums.into_iter().map(|sum| sum / count as f64).collect())
 }

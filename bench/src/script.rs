@@ -9,30 +9,40 @@ use crate::tables::Tables;
 /// The most bytes of a script that is run.
 const MOST_BYTES: usize = 65_536;
 
-/// A script with its records counted; the pool beside it makes each step, so that ids are known.
+/// A script with the places behind its records; the pool beside it makes each step, so that ids are known.
 pub struct Script {
     pub name: &'static str,
     pub shape: Shape,
-    pub bytes: Vec<u8>,
-    pub records: usize,
+    bytes: Vec<u8>,
+    ends: Vec<usize>,
     tables: Tables,
 }
 
 impl Script {
     /// A script that so far holds its shape.
     fn new(name: &'static str, shape: Shape) -> Script {
-        let mut script = Script { name, shape, bytes: Vec::with_capacity(MOST_BYTES), records: 0, tables: Tables::zeros(shape) };
+        let mut script = Script { name, shape, bytes: vec![], ends: vec![], tables: Tables::zeros(shape) };
         PlainC.make(Call::Build, shape, &mut script.tables);
         let numbers = [shape.pool, shape.threads, shape.levels, shape.tops].map(|number| number as u8);
         script.put(1, &[numbers, four(shape.top_size)].concat());
         script
     }
 
+    /// How many records it has.
+    pub fn records(&self) -> usize {
+        self.ends.len()
+    }
+
+    /// The bytes of its first records.
+    pub fn first(&self, records: usize) -> &[u8] {
+        &self.bytes[..if records == 0 { 0 } else { self.ends[records - 1] }]
+    }
+
     /// Adds a record.
     fn put(&mut self, tag: u8, value: &[u8]) {
         self.bytes.extend([tag, value.len() as u8, 0]);
         self.bytes.extend(value);
-        self.records += 1;
+        self.ends.push(self.bytes.len());
     }
 
     /// Adds the record of a call and makes the call. A call that has no record is left out. None where the script is full.

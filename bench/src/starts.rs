@@ -3,6 +3,7 @@
 use crate::call::{Call, Pool};
 use crate::churn::{Churn, Phase};
 use crate::kind::Kind;
+use crate::quietest::Quietest;
 use crate::random::Random;
 use crate::shape::Shape;
 use crate::tables::Tables;
@@ -12,10 +13,11 @@ use crate::together::Together;
 const MIXED_CALLS: usize = 8000;
 pub const KEPT: usize = 4;
 
-/// A call, and the tables on which it is made.
+/// A call, the tables on which it is made, and its times by each pool.
 pub struct Start {
     pub call: Call,
     pub tables: Tables,
+    pub times: Quietest,
 }
 
 /// The starts of one kind, taken evenly from all calls of that kind.
@@ -39,7 +41,7 @@ impl Starts {
     /// Keeps this start or not, so that in the end each that was seen is kept with the same chance.
     fn offer(&mut self, random: &mut Random, call: Call, tables: &Tables) {
         self.seen += 1;
-        let start = || Start { call, tables: tables.clone() };
+        let start = || Start { call, tables: tables.clone(), times: Quietest::default() };
         if self.list.len() < KEPT {
             self.list.push(start());
         } else if let Some(kept) = self.list.get_mut(random.below(self.seen)) {

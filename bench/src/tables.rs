@@ -40,16 +40,6 @@ impl Tables {
         }
     }
 
-    /// Makes record and tables the same as others of the same lengths, in place. The row may hold anything.
-    pub fn copy_from(&mut self, other: &Tables) {
-        self.device = other.device;
-        self.states.copy_from_slice(&other.states);
-        self.owners.copy_from_slice(&other.owners);
-        self.lists.copy_from_slice(&other.lists);
-        self.calls.copy_from_slice(&other.calls);
-        self.queue.copy_from_slice(&other.queue);
-    }
-
     /// The stage of a thread's call.
     pub fn stage(&self, thread: usize) -> u64 {
         self.calls[CELLS * thread]

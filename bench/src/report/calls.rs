@@ -31,7 +31,7 @@ fn shape(names: &[&str], figures: &Figures, largest: bool) -> String {
     if largest {
         header.extend(names.iter().map(|name| format!("{name}, for a block")));
     }
-    let rows: Vec<Vec<String>> = figures.rows.iter().map(|each| row(each, blocks)).collect();
+    let rows: Vec<Vec<String>> = figures.rows().iter().map(|each| row(each, blocks)).collect();
     heading(figures) + &table(&header, &rows)
 }
 

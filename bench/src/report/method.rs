@@ -2,6 +2,7 @@
 
 use crate::figures::Figures;
 use crate::measure::{MOST_COPIES, SAMPLE_BYTES};
+use crate::quietest::PASSES;
 use crate::starts::KEPT;
 use crate::words::whole;
 use crate::Rounds;
@@ -42,9 +43,10 @@ fn figures(rounds: usize) -> String {
          and give blocks of all sizes. The tree is well divided, the lists are long and in no order, several threads hold blocks, and some \
          calls are open. Each call is measured from up to {KEPT} states, taken evenly from those on which the history made it.\n\n\
          **Figures.** A sample is the same call on each of some copies of the tables, timed as a whole: as many copies as fill {} bytes, at \
-         least one and at most {MOST_COPIES}. Record and tables are put back before each sample, outside the timed part. In each of {} rounds \
+         least one and at most {MOST_COPIES}. What the call changed is put back after each sample, outside the timed part. In each of {} rounds \
          all have their turn, and so has a call that does nothing. A time is the median of the rounds less that of the call that does \
-         nothing; a figure is the mean of the times from its states.\n",
+         nothing. {PASSES} such passes are made over all shapes and calls, and the quietest counts: that in which the times of all three together \
+         are least. A figure is the mean of the times from its states.\n",
         whole(SAMPLE_BYTES),
         whole(rounds)
     )
@@ -55,11 +57,11 @@ fn programs(rounds: usize) -> String {
     format!(
         "**Scripts.** The script program reads a script of up to 65,536 bytes, and so does a plain C runner (bench/runner.c), which makes the \
          steps of bench/plain on tables of its own and never checks them as a whole; both print through a buffer of their own. First their \
-         listings are compared. Then whole processes are timed, {} times each with the script and with an empty one, in turn; what is printed \
-         goes to /dev/null. The figures are medians. The time for a record is that of the whole process \
-         less that of the same program with an empty script, divided by the number of records. What a program does at its start is then \
-         left out; so the figures stand there once more with only the plain C runner's time for an empty script taken away from both, as \
-         the time that any process takes.\n",
+         listings are compared. Then whole processes are timed, {} times each, in turn, with the script, with the first half of its records and \
+         with an empty script; what is printed goes to /dev/null. The figures are medians, from the quietest of {PASSES} passes. The time for a \
+         record is that of the records in the second half: the time with the script less that with its first half. So what a program does at \
+         its start is left out. It is counted in the last two columns: the time with the script less the plain C runner's with an empty \
+         script, which is what any process takes, divided by the number of all records.\n",
         whole(rounds)
     )
 }

@@ -1,42 +1,35 @@
 //! The figures of the script program.
 
 use super::markdown::table;
-use crate::program::Timed;
+use crate::program::{Part, Timed};
 use crate::words::{nanos, ratio, whole};
 
-/// A script's row: its records, the whole processes, the empty ones, the time for a record without and with the start.
+/// A script's row: its records, the processes, the time for a record without and with the start.
 fn row(timed: &Timed) -> Vec<String> {
-    let micros = |time: f64| nanos(time / 1000.0);
-    vec![
-        timed.script.name.to_string(),
-        whole(timed.script.shape.blocks()),
-        whole(timed.script.records),
-        micros(timed.whole[0]),
-        micros(timed.whole[1]),
-        micros(timed.empty[0]),
-        micros(timed.empty[1]),
-        nanos(timed.record(0)),
-        nanos(timed.record(1)),
-        ratio(timed.record(0) / timed.record(1)),
-        nanos(timed.with_start(0)),
-        ratio(timed.with_start(0) / timed.with_start(1)),
-    ]
+    let both = |part: Part| [0, 1].map(|program| nanos(timed.process(part, program) / 1000.0));
+    let begin = [timed.script.name.to_string(), whole(timed.script.shape.blocks()), whole(timed.script.records())];
+    let processes = [both(Part::Whole), both(Part::Half), both(Part::Empty)].concat();
+    let record = [nanos(timed.record(0)), nanos(timed.record(1)), ratio(timed.record(0) / timed.record(1))];
+    let with_start = [nanos(timed.with_start(0)), ratio(timed.with_start(0) / timed.with_start(1))];
+    [&begin[..], &processes, &record, &with_start].concat()
 }
 
 /// The columns.
-const HEADER: [&str; 12] = [
+const HEADER: [&str; 14] = [
     "script",
     "blocks",
     "records",
     "proved, µs",
     "C, µs",
-    "proved, empty script, µs",
-    "C, empty script, µs",
+    "half: proved, µs",
+    "half: C, µs",
+    "empty: proved, µs",
+    "empty: C, µs",
     "proved, ns for a record",
     "C, ns for a record",
     "proved / C",
-    "proved with its start, ns for a record",
-    "proved with its start / C",
+    "with its start: proved, ns for a record",
+    "with its start: proved / C",
 ];
 
 /// The table of all scripts, or why there is none.
