@@ -76,15 +76,18 @@ fn list_pool(s: Shape, states: &[u8], row: &mut [u32]) -> usize
     list_parts(s, states, row, 0, s.levels - 1, 0, s.tops)
 }
 
-// The map in a lent row: it is counted first, so that a row that is too short is refused untouched.
+// The map in a lent row. A row with a place for each block of the deepest level is long enough; for another the map is counted first, so that
+// a row that is too short is refused untouched.
 pub fn map_row(s: Shape, states: &[u8], row: &mut [u32]) -> Mapped
     requires { ⌜ (allowed s ≡ true) × (length (now states) ≡ blocks s) ⌝ }
     ensures { λ r. ⌜ mapOutcome r (now (row .exit)) ≡ mapRow s (now (states .entry)) (now (row .entry)) ⌝ }
 {
+    if s.count(s.levels - 1) <= row.len() {
+        return Mapped::Blocks(list_pool(s, states, row));
+    }
     let count = list_pool(s, states, &mut row[..0]);
     if row.len() < count {
         return Mapped::Refused(Refusal::RowTooShort);
     }
-    list_pool(s, states, row);
-    Mapped::Blocks(count)
+    Mapped::Blocks(list_pool(s, states, row))
 }

@@ -1,10 +1,13 @@
--- The table of powers holds the powers of the number of parts.
+-- The table of powers holds the powers of the number of parts, and that of sums what lies above each level.
 -- Assumes nothing.
 use mathlib.Core.Path.{_≡_, refl}
 use mathlib.Core.List.{List, [], _∷_}
-use Prim.Native.Nat.{ℕ, zero, suc, _+_, _^_, _<_, _≤_}
+use Prim.Native.Nat.{ℕ, zero, suc, _+_, _*_, _^_, _<_, _≤_}
 use native.Mathlib.Omega.{arith}
 use lib.ListN.{getD}
+use Rattle.shape.specs.declared.Shape.{Shape}
+use Rattle.shape.specs.Limits.{parts}
+use Rattle.shape.specs.Blocks.{count, above}
 
 abbrev pub powers : List ℕ
 powers = 1 ∷ 4 ∷ 16 ∷ 64 ∷ 256 ∷ 1024 ∷ []
@@ -26,3 +29,17 @@ power-range (suc (suc (suc zero))) h = omega arith
 power-range (suc (suc (suc (suc zero)))) h = omega arith
 power-range (suc (suc (suc (suc (suc zero))))) h = omega arith
 power-range (suc (suc (suc (suc (suc (suc l)))))) h = absurd (omega arith)
+
+-- the sums of the powers, times the top blocks, are what lies above each level
+abbrev pub sums : List ℕ
+sums = 0 ∷ 1 ∷ 5 ∷ 21 ∷ 85 ∷ 341 ∷ []
+
+pub sum-above : (s : Shape) (l : ℕ) → l < 6 → s .tops * getD sums l 0 ≡ above s l
+unfolding above count parts
+sum-above s zero h = omega arith
+sum-above s (suc zero) h = omega arith
+sum-above s (suc (suc zero)) h = omega arith
+sum-above s (suc (suc (suc zero))) h = omega arith
+sum-above s (suc (suc (suc (suc zero)))) h = omega arith
+sum-above s (suc (suc (suc (suc (suc zero))))) h = omega arith
+sum-above s (suc (suc (suc (suc (suc (suc l)))))) h = absurd (omega arith)

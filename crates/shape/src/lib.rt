@@ -20,6 +20,9 @@ pub struct Shape {
 // The powers of the number of parts.
 const POWERS: [usize; 6] = [1, 4, 16, 64, 256, 1024];
 
+// The sums of the powers below each: how many blocks of a top block lie above a level.
+const SUMS: [usize; 6] = [0, 1, 5, 21, 85, 341];
+
 impl Shape {
     pub const PARTS: usize = 4;
 
@@ -117,13 +120,7 @@ impl Shape {
         requires { ⌜ (allowed self ≡ true) × (level ≤ self .levels) ⌝ }
         ensures { λ r. ⌜ (r ≡ above self level) × (r ≤ 5456) ⌝ }
     {
-        let mut sum = 0;
-        let mut l = 0;
-        while l < level {
-            sum = sum + self.count(l);
-            l = l + 1;
-        }
-        sum
+        self.tops * SUMS[level]
     }
 
     // The place of a block in the tables.

@@ -1,48 +1,27 @@
--- `shape::Shape::above` meets its contract: the sum so far is what lies above the level reached.
+-- `shape::Shape::above` meets its contract: the rule of the table of sums at each of its entries.
 -- Assumes nothing.
 use native.Mathlib.Omega.{arith}
-use mathlib.Core.Path.{_≡_}
-use Prim.Native.Nat.{_+_, _≤_, _-_}
-use Rattle.shape.specs.Blocks.{above}
-use Rattle.shape.specs.Laws.{limits, above-none, above-next, above-most}
+use Prim.Native.Nat.{_<_}
+use Rattle.shape.specs.Laws.{limits, above-most}
+use Rattle.shape.proofs.Powers.{sum-above}
 use Rattle.shape.proofs.Shape.above.Statement.{statement}
 use Rattle.shape.proofs.Shape.above.Tie as tie
 
-abbrev Inv-loop : tie.InvT-loop
-Inv-loop self level sum₀ l₀ sum l = (l ≤ level) × (sum ≡ above self l)
+-- the level stands in the table
+inside : (c : tie.Start) → c .args .level < 6
+inside c = omega (arith, c .pre .1, limits _ (c .pre .0) .levels .1)
 
-abbrev μ-loop : tie.MeasureT-loop
-μ-loop self level sum₀ l₀ sum l = level - l
+mul-result : tie.Need-mul-result
+mul-result c = omega (arith, inside (c))
 
-loop-holds : tie.Need-loop-holds Inv-loop μ-loop
-loop-holds c = (omega arith, omega (arith, above-none (c .args .self)))
+array-read-result : tie.Need-array-read-result
+array-read-result c = inside (c)
 
-count-requires : tie.Need-count-requires Inv-loop μ-loop
-count-requires c κs = (c .before .before .pre .0, omega arith)
+mul-result-2 : tie.Need-mul-result-2
+mul-result-2 c = omega (arith, sum-above (c .before .args .self) (c .before .args .level) (inside (c .before)), above-most (c .before .args .self) (c .before .args .level) (limits _ (c .before .pre .0)) (c .before .pre .1))
 
-add-sum : tie.Need-add-sum Inv-loop μ-loop
-add-sum c =
-    omega (
-      arith,
-      above-next (c .before .before .before .args .self) (c .before .before .loop .l),
-      above-most (c .before .before .before .args .self) (c .before .before .loop .l + 1) (limits _ (c .before .before .before .pre .0)) (omega arith),
-    )
-
-add-l : tie.Need-add-l Inv-loop μ-loop
-add-l c = omega arith
-
-loop-less : tie.Need-loop-less Inv-loop μ-loop
-loop-less c = omega arith
-
-loop-again : tie.Need-loop-again Inv-loop μ-loop
-loop-again c = omega (arith, above-next (c .before .before .before .args .self) (c .before .before .loop .l))
-
-returns : tie.Need-returns Inv-loop μ-loop
-returns c =
-    let e : c .before .loop .l ≡ c .before .before .args .level = omega arith in
-    rw (← e) (c .before .loop .inv .1, omega (arith, above-most (c .before .before .args .self) (c .before .loop .l) (limits _ (c .before .before .pre .0)) (omega arith)))
+returns : tie.Need-returns
+returns c = (sum-above (c .before .args .self) (c .before .args .level) (inside (c .before)), omega (arith, sum-above (c .before .args .self) (c .before .args .level) (inside (c .before)), above-most (c .before .args .self) (c .before .args .level) (limits _ (c .before .pre .0)) (c .before .pre .1)))
 
 pub above-spec : {M : Type 1} → statement M
-above-spec =
-    tie.close
-    (tie.spec Inv-loop μ-loop loop-holds count-requires add-sum add-l loop-less loop-again returns)
+above-spec = tie.close (tie.spec mul-result array-read-result mul-result-2 returns)
