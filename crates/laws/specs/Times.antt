@@ -1,4 +1,4 @@
--- How often numbers stand in a list: one member more, and when a list names each number that passes a test once and nothing else.
+-- How often a number stands in a list: none, one behind another, one member more.
 -- Assumes nothing.
 use mathlib.Core.Path.{_≡_, refl, sym}
 use mathlib.Core.Bool.{Bool, true, false}
