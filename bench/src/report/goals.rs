@@ -39,12 +39,23 @@ fn records(scripts: Option<&[Timed]>) -> [Vec<String>; 2] {
     }
 }
 
-/// The table of goals.
+/// Why the proved code is slower where it is.
+const WHY: &str = "Where the proved code is the slower one, this is why:
+
+- **map** has the form that document 01 names: listing a block calls listing its parts, which calls listing a block, a call for each \
+block and one for each divided block. Plain C lists in one loop for each divided block.
+- **Small shapes:** the check of the blocks in hand clears marks for the most blocks that any shape has, whatever the shape.
+- **The program's start:** the whole listing is proved as one run of bytes in one buffer that holds the longest listing, and the pages of \
+that buffer are touched before the first record is read. Plain C flushes a small buffer.
+
+";
+
+/// The table of goals, and why the proved code is slower where it is.
 pub fn goals(calls: &[Figures], scripts: Option<&[Timed]>) -> String {
     let call = format!("a checked call at the largest shape takes at most {} times plain C that makes the same check", goals::CALL);
     let growth =
         format!("a call's time grows linearly: from one shape to the next at most {} times as much as the number of blocks", goals::GROWTH);
     let [record, with_start] = records(scripts);
     let rows = [row(call, &goals::calls(calls)), row(growth, &goals::growth(calls)), record, with_start];
-    format!("## Goals\n\n{}", list(&["goal", "measured", "met"], &rows))
+    format!("## Goals\n\n{}{WHY}", list(&["goal", "measured", "met"], &rows))
 }
