@@ -1,5 +1,4 @@
-// The first record of a script: its shape, and the tables that it needs.
-use crate::rest::run_rest;
+// A script from its first record on: its shape, the tables that it needs, and the records behind it.
 use rules::Answer;
 use rules::CELLS;
 use rules::Device;
@@ -7,8 +6,9 @@ use rules::Refusal;
 use rules::script::Read;
 use rules::script::Record;
 use shape::Shape;
+use turns::turn;
 ghost use Rattle.rules.specs.Tables.{state, fresh};
-ghost use Rattle.run.specs.Listed.{Titled, Headed, Largest, Lent, AllListed};
+ghost use Rattle.run.specs.Listed.{Begun, Listed, Titled, Headed, Largest, Lent, AllListed};
 
 // The lengths of the lists, the calls and the queue of the largest shape.
 const MOST_LISTS: usize = Shape::MOST_LEVELS + Shape::MOST_BLOCKS;
@@ -16,6 +16,43 @@ const MOST_LISTS: usize = Shape::MOST_LEVELS + Shape::MOST_BLOCKS;
 const MOST_CALLS: usize = CELLS * Shape::MOST_THREADS;
 
 const MOST_QUEUE: usize = Shape::MOST_THREADS + 1;
+
+// Runs the records from an offset on, one after the other, and writes the line of each; a bad one is the last.
+// Answers the place behind the lines.
+fn run_rest(
+    script: &[u8],
+    from: usize,
+    d: Device,
+    s: Shape,
+    out: &mut [u8],
+    start: usize,
+    states: &mut [u8],
+    owners: &mut [u8],
+    lists: &mut [u16],
+    calls: &mut [u64],
+    queue: &mut [u8],
+) -> usize
+    requires { ⌜ Begun (now script) 1 from s (state (now states) (now owners) (now lists) (now calls) (now queue) d) (now out) start ⌝ }
+    ensures { λ r. ⌜ Listed (now (script .entry)) 1 from s (state (now (states .entry)) (now (owners .entry)) (now (lists .entry)) (now (calls .entry)) (now (queue .entry)) d) (now (out .entry)) start (now (out .exit)) r ⌝ }
+{
+    let mut device = d;
+    let mut n = 1;
+    let mut at = from;
+    let mut end = start;
+    while at < script.len() {
+        let tag = script[at];
+        let Read::Record(step, next) = reader::read(script, at) else {
+            return lines::put_line(out, end, n, tag, Answer::Refused(Refusal::BadRecord(at)));
+        };
+        let ran = turn(step, device, s, states, owners, lists, calls, queue);
+        let answer = ran.answer;
+        end = lines::put_line(out, end, n, tag, answer);
+        device = ran.device;
+        at = next;
+        n += 1;
+    }
+    end
+}
 
 // Runs a script on lent tables of the lengths of its shape: made fresh, then the records behind the shape.
 fn run_built(

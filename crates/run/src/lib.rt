@@ -1,6 +1,5 @@
 // A whole script to its whole listing.
 mod first;
-mod rest;
 
 use lines::LINE_MOST;
 use rules::Answer;

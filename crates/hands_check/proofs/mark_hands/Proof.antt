@@ -1,4 +1,4 @@
--- `hands_check::hands::mark_hands` meets its contract: each block bears the marks of the calls passed. A call without a block in hand
+-- `hands_check::mark_hands` meets its contract: each block bears the marks of the calls passed. A call without a block in hand
 -- marks nothing; the block in hand of any other gets that call's mark, and no other block stands at its place.
 -- Assumes nothing.
 use mathlib.Core.Path.{_≡_, refl, sym, _∙_}
@@ -8,8 +8,8 @@ use lib.ListN.{length, length-set}
 use Rattle.shape.specs.Blocks.{count}
 use Rattle.shape.specs.Laws.{limits}
 use Rattle.hands_check.specs.Hands.{Marked, hand-at, marked-none, marked-skip, marked-more, marked-all, marks-fit}
-use Rattle.hands_check.proofs.hands.mark_hands.Statement.{statement}
-use Rattle.hands_check.proofs.hands.mark_hands.Tie as tie
+use Rattle.hands_check.proofs.mark_hands.Statement.{statement}
+use Rattle.hands_check.proofs.mark_hands.Tie as tie
 
 abbrev Inv-loop : tie.InvT-loop
 Inv-loop s calls marks₀ t₀ marks t = (t ≤ s .threads) × (length marks ≡ length marks₀) × Marked s calls t marks

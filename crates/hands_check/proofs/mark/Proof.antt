@@ -1,10 +1,10 @@
--- `hands_check::hands::mark` meets its contract: the marks are at most 17.
+-- `hands_check::mark` meets its contract: the marks are at most 17.
 -- Assumes nothing.
 use native.Mathlib.Omega.{arith}
 use borrow.Author.Needs.{needs}
 use Rattle.laws.specs.Tests.{bit-most}
-use Rattle.hands_check.proofs.hands.mark.Statement.{statement}
-use Rattle.hands_check.proofs.hands.mark.Tie as tie
+use Rattle.hands_check.proofs.mark.Statement.{statement}
+use Rattle.hands_check.proofs.mark.Tie as tie
 
 cast-result : tie.Need-cast-result
 cast-result c = search needs

@@ -1,4 +1,4 @@
--- `hands_check::hands::marks_agree` meets its contract: the flag says of the blocks passed whether each mark is its state's.
+-- `hands_check::marks_agree` meets its contract: the flag says of the blocks passed whether each mark is its state's.
 -- Assumes nothing.
 use mathlib.Core.Path.{_≡_, sym, _∙_}
 use Prim.Native.Nat.{_-_, _≤_}
@@ -7,8 +7,8 @@ use lib.ListN.{length}
 use Rattle.laws.specs.Tests.{every, every-none, every-more}
 use Rattle.hands_check.specs.Hands.{agrees}
 use Rattle.laws.specs.Tests.{every-upto}
-use Rattle.hands_check.proofs.hands.marks_agree.Statement.{statement}
-use Rattle.hands_check.proofs.hands.marks_agree.Tie as tie
+use Rattle.hands_check.proofs.marks_agree.Statement.{statement}
+use Rattle.hands_check.proofs.marks_agree.Tie as tie
 
 abbrev Inv-loop : tie.InvT-loop
 Inv-loop states marks ok₀ k₀ ok k = (k ≤ length states) × (ok ≡ every k (agrees states marks))

@@ -1,4 +1,4 @@
--- `run::rest::run_rest` meets its contract: each turn writes its record's line, and with the lines of the rest all are written.
+-- `run::first::run_rest` meets its contract: each turn writes its record's line, and with the lines of the rest all are written.
 -- Assumes nothing.
 use mathlib.Core.Path.{sym, _∙_, ap}
 use Prim.Native.Nat.{_-_}
@@ -6,8 +6,8 @@ use lib.ListN.{length}
 use lib.Seq.{length-sets}
 use Rattle.rules.specs.Tables.{state}
 use Rattle.run.proofs.Going.{same-lengths, Going, starts, line-room, ends, ends-bad, no-shape, falls, goes-on}
-use Rattle.run.proofs.rest.run_rest.Statement.{statement}
-use Rattle.run.proofs.rest.run_rest.Tie as tie
+use Rattle.run.proofs.first.run_rest.Statement.{statement}
+use Rattle.run.proofs.first.run_rest.Tie as tie
 use native.Mathlib.Omega.{arith}
 use borrow.Author.Needs.{needs}
 
