@@ -25,7 +25,7 @@ abbrev pub counted : List ℕ → ℕ → ℕ
 counted states state = tally (length states) (inState states state)
 
 -- a test as a byte
-byte-bit : (b : Bool) → boolByte b ≡ bit b
+pub byte-bit : (b : Bool) → boolByte b ≡ bit b
 byte-bit true = refl
 byte-bit false = refl
 
