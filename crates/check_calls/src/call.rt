@@ -61,7 +61,10 @@ fn not_deeper(s: Shape, stage: usize, c: Call) -> bool
     requires { ⌜ allowed s ≡ true ⌝ }
     ensures { λ r. ⌜ r ≡ (not (eqb (c .stage) stage) || leb (c .level) (levelFor s (c .size))) ⌝ }
 {
-    (c.stage != stage) | (c.level <= s.level_for(c.size))
+    if c.stage != stage {
+        return true;
+    }
+    c.level <= s.level_for(c.size)
 }
 
 // Whether a timed deadline is not too far, and above the clock while waiting.
@@ -80,11 +83,14 @@ fn may_wait(c: Call) -> bool
     (c.stage != rules::WAITING) | (c.wait != rules::NEVER)
 }
 
-// Whether all that is said of one call holds.
+// Whether all that is said of one call holds: of a closed one, that it holds zeros.
 pub fn call_kept(s: Shape, clock: usize, c: Call) -> bool
     requires { ⌜ (allowed s ≡ true) × (clock < 2 ^ 32) ⌝ }
     ensures { λ r. ⌜ r ≡ callKept s clock c ⌝ }
 {
+    if c.stage == rules::CLOSED {
+        return (c.size == 0) & (c.wait == 0) & (c.deadline == 0) & (c.level == 0) & (c.block == 0);
+    }
     fields_used(c)
         & hand_inside(s, c)
         & not_deeper(s, rules::DIVIDING, c)

@@ -1,55 +1,52 @@
 // Whether the blocks in hand are those of a valid state.
-use check_calls::call::uses_block;
+use check_counts::count_of;
 use shape::Shape;
 use tables_threads::call::call_of;
 ghost use mathlib.Core.Path.{_≡_};
 ghost use mathlib.Core.Bool.{true, _&&_};
-ghost use Prim.Native.Nat.{ℕ, _*_, _≤_};
-ghost use lib.ListN.{length, getD};
-ghost use Rattle.laws.specs.Tests.{every};
+ghost use Prim.Native.Nat.{_*_};
+ghost use lib.ListN.{length};
 ghost use Rattle.shape.specs.Limits.{allowed};
 ghost use Rattle.shape.specs.Blocks.{blocks};
 ghost use Rattle.rules.specs.Numbers.{CELLS, FREEING, ALLOCATING, DIVIDING, RELEASING};
 ghost use Rattle.rules.specs.Valid.{oneToOne};
-ghost use Rattle.check_hands.specs.Hands.{handsInside, mark, Marked, agrees};
+ghost use Rattle.check_hands.specs.Hands.{handsInside, atStage, holders, Hands};
 
-// A mark: 1 for a dividing call or an ALLOCATING block, 16 for a releasing call or a FREEING block.
-fn mark(one: bool, other: bool) -> u8
-    ensures { λ r. ⌜ (r ≡ mark one other) × (r ≤ 17) ⌝ }
+// How many calls at a stage have this block in hand.
+fn holders(s: Shape, calls: &[u64], stage: usize, level: usize, block: usize) -> usize
+    requires { ⌜ length (now calls) ≡ CELLS * s .threads ⌝ }
+    ensures { λ r. ⌜ r ≡ holders s (now (calls .entry)) (atStage stage) level block ⌝ }
 {
-    one as u8 + 16 * (other as u8)
+    let mut sum = 0;
+    let mut t = 0;
+    while t < s.threads {
+        let c = call_of(calls, t);
+        sum += ((c.stage == stage) & (c.level == level) & (c.block == block)) as usize;
+        t += 1;
+    }
+    sum
 }
 
-// Marks the block in hand of each call.
-fn mark_hands(s: Shape, calls: &[u64], marks: &mut [u8])
-    requires { ⌜ (allowed s ≡ true) × (length (now calls) ≡ CELLS * s .threads) × (handsInside s (now calls) ≡ true) ⌝ }
-    requires { ⌜ (blocks s ≤ length (now marks)) × ((k : ℕ) → getD (now marks) k 0 ≡ 0) ⌝ }
-    ensures { λ r. ⌜ Marked s (now (calls .entry)) (s .threads) (now (marks .exit)) ⌝ }
+// Whether the blocks of a state correspond to the calls at a stage, one to one: there are as many of both, each call has a block of that
+// state in hand, and no other call has it.
+fn one_to_one(s: Shape, states: &[u8], calls: &[u64], state: u8, stage: usize) -> bool
+    requires { ⌜ Hands s (now states) (now calls) (atStage stage) ⌝ }
+    ensures { λ r. ⌜ r ≡ oneToOne state stage s (now (states .entry)) (now (calls .entry)) ⌝ }
 {
+    let mut ok = true;
+    let mut sum = 0;
     let mut t = 0;
     while t < s.threads {
         let c = call_of(calls, t);
         t += 1;
-        if uses_block(c) {
+        if c.stage == stage {
             let place = s.place(c.level, c.block);
-            marks[place] += mark(c.stage == rules::DIVIDING, c.stage == rules::RELEASING);
+            ok = ok
+                & ((states[place] == state) & (holders(s, calls, stage, c.level, c.block) == 1));
+            sum += 1;
         }
     }
-}
-
-// Whether the marks of the first blocks are those of their states.
-fn marks_agree(states: &[u8], marks: &[u8]) -> bool
-    requires { ⌜ length (now states) ≤ length (now marks) ⌝ }
-    ensures { λ r. ⌜ r ≡ every (length (now (states .entry))) (agrees (now (states .entry)) (now (marks .entry))) ⌝ }
-{
-    let mut ok = true;
-    let mut k = 0;
-    while k < states.len() {
-        let state = states[k];
-        ok = ok & (marks[k] == mark(state == rules::ALLOCATING, state == rules::FREEING));
-        k += 1;
-    }
-    ok
+    (count_of(states, state) == sum) & ok
 }
 
 // Whether ALLOCATING blocks correspond to dividing calls and FREEING blocks to releasing calls, one to one.
@@ -57,7 +54,6 @@ pub fn hands_valid(s: Shape, states: &[u8], calls: &[u64]) -> bool
     requires { ⌜ (allowed s ≡ true) × (length (now states) ≡ blocks s) × (length (now calls) ≡ CELLS * s .threads) × (handsInside s (now calls) ≡ true) ⌝ }
     ensures { λ r. ⌜ r ≡ (oneToOne ALLOCATING DIVIDING s (now (states .entry)) (now (calls .entry)) && oneToOne FREEING RELEASING s (now (states .entry)) (now (calls .entry))) ⌝ }
 {
-    let mut marks = [0u8; Shape::MOST_BLOCKS];
-    mark_hands(s, calls, &mut marks);
-    marks_agree(states, &marks)
+    one_to_one(s, states, calls, rules::ALLOCATING, rules::DIVIDING)
+        & one_to_one(s, states, calls, rules::FREEING, rules::RELEASING)
 }

@@ -1,19 +1,24 @@
 -- What validity says of one level, in the order in which it is tried.
 -- Assumes nothing.
 use mathlib.Core.Path.{_≡_, refl, sym, _∙_, ap, ap₂}
-use mathlib.Core.Bool.{Bool, true, false, _&&_, _||_}
+use mathlib.Core.Bool.{Bool, true, false, not, _&&_, _||_}
 use mathlib.Core.List.{List}
-use Prim.Native.Nat.{ℕ, zero, suc, _+_, _-_, _≤_, _<_}
+use Prim.Native.Nat.{ℕ, _+_, _-_, _≤_, _<_}
 use native.Mathlib.Decide.{decLt}
 use native.Mathlib.Omega.{arith}
 use lib.ListN.{length, getD, take, drop, length-drop}
-use lib.Seq.{getD-drop, take-all}
+use lib.Seq.{getD-drop, take-all, length-take-le}
 use lib.Dec.{eqb, ltb, leb}
-use borrow.Author.Tests.{ne-eqb, le-ltb, lt-ltb, le-leb, lt-leb}
-use Rattle.laws.specs.Tests.{bit, bit-most, every, every-at, every-of, every-same, every-both}
+use borrow.Author.Tests.{ltb-true, le-ltb, lt-ltb, le-leb, lt-leb}
+use Rattle.laws.specs.Tests.{every, every-at, every-of, every-same}
 use Rattle.laws.specs.Lists.{times}
 use Rattle.laws.specs.Times.{same-test}
-use Rattle.check_lists.specs.Level.{zeros, below, once, ends, free, levelValid}
+use Rattle.laws.specs.Counts.{named-once}
+use Rattle.shape.specs.Limits.{mostCount}
+use Rattle.rules.specs.Numbers.{FREE}
+use Rattle.check_counts.specs.Counted.{counted}
+use Rattle.check_lists.specs.Level.{zeros, below, ends, free, levelValid}
+use Rattle.check_lists.specs.Marks.{marked, allMarked}
 
 -- a list longer than its cells
 pub level-long : (states cells : List ℕ) (used : ℕ) → length cells < used → false ≡ levelValid states cells used
@@ -76,26 +81,24 @@ pub record Tried (states cells : List ℕ) (used : ℕ) : Type 0 where
   pub rest : zeros (behind cells used) ≡ true
   pub inside : below (take used cells) (length states) ≡ true
 
--- named once exactly if FREE: at most once, and at all exactly if FREE
-once-named : (t : ℕ) (f : Bool) → eqb t (bit f) ≡ (leb t 1 && eqb (bit (ltb 0 t)) (bit f))
-once-named zero true = refl
-once-named zero false = refl
-once-named (suc zero) true = refl
-once-named (suc zero) false = refl
-once-named (suc (suc t)) f = rw (ne-eqb (suc (suc t)) (bit f) (more f), lt-leb (suc (suc t)) 1 (omega arith))
-  where
-    more : (f : Bool) → suc (suc t) ≡ bit f → ⊥
-    more f e = omega (arith, e, bit-most f)
+-- so the members are below the most blocks that a level has
+pub tried-below :
+    {states cells : List ℕ} {used : ℕ} → Tried states cells used → length states ≤ mostCount →
+    below (take used cells) mostCount ≡ true
+tried-below {states} {cells} {used} t few =
+    every-of (length (take used cells)) _ (λ i l.
+    lt-ltb (getD (take used cells) i 0) mostCount
+    (omega (arith, ltb-true (getD (take used cells) i 0) (length states) (every-at (length (take used cells)) _ (t .inside) i l))))
 
--- then what is left: no member twice, and those named are the FREE ones, as the marks say
+-- then what is left: as many members as FREE blocks, and each of these named, as the marks say
 pub level-marks :
-    {states cells : List ℕ} {used : ℕ} (marks : List ℕ) {ok : Bool} → Tried states cells used →
-    (ok ≡ once (take used cells) (length states))
-    × ((b : ℕ) → b < length states → getD marks b 0 ≡ bit (ltb 0 (times b (take used cells)))) →
-    (ok && every (length states) (λ b. eqb (getD marks b 0) (bit (free states b)))) ≡ levelValid states cells used
+    {states cells : List ℕ} {used : ℕ} (marks : List ℕ) {n : ℕ} {ok : Bool} → Tried states cells used →
+    length states ≤ mostCount → ((b : ℕ) → b < mostCount → marked marks b ≡ ltb 0 (times b (take used cells))) →
+    n ≡ counted states FREE → ok ≡ every (length states) (allMarked states marks) → (eqb n used && ok) ≡ levelValid states cells used
 unfolding levelValid
-level-marks {states} {cells} {used} marks {ok} t m =
-    ap₂ _&&_ (m .0) (every-same _ _ _ (λ b l. ap (λ (x : ℕ). eqb x (bit (free states b))) (m .1 b l)))
-    ∙ (sym (every-both (length states) _ _)
-    ∙ (every-same _ _ _ (λ b l. sym (once-named (times b (take used cells)) (free states b)))
-    ∙ rw (ends-zeros cells used (t .fits), t .rest, t .inside)))
+level-marks {states} {cells} {used} marks t few m c e =
+    rw (c, e)
+    (ap₂ _&&_ (ap (eqb (counted states FREE)) (sym (length-take-le used cells (t .fits))))
+    (every-same (length states) _ _ (λ b l. ap (λ (a : Bool). not (free states b) || a) (m b (omega arith))))
+    ∙ named-once (length states) (free states) (take used cells) (t .inside)
+    ∙ rw (ends-zeros cells used (t .fits), t .rest, t .inside))

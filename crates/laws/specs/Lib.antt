@@ -7,3 +7,4 @@ pub mod Rows
 pub mod Changes
 pub mod Digits
 pub mod Sets
+pub mod Counts

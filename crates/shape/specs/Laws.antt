@@ -13,7 +13,7 @@ use lib.Dec.{leb, eqb}
 use borrow.Author.Tests.{leb-true, leb-false, eqb-true}
 use Rattle.laws.specs.Tests.{both}
 use Rattle.shape.specs.declared.Shape.{Shape}
-use Rattle.shape.specs.Limits.{parts, unit, allowed}
+use Rattle.shape.specs.Limits.{parts, mostCount, unit, allowed}
 use Rattle.shape.specs.Blocks.{size, count, levelFrom, levelFor, above, place, blocks}
 
 -- what an allowed shape's numbers are
@@ -137,8 +137,8 @@ pub levelFor-fits : (s : Shape) (request : ℕ) → request ≤ s .«top_size» 
 unfolding levelFor
 levelFor-fits s request h = levelFrom-fits s request (s .levels - 1) h
 
--- a level has at least one block, and the deepest of five levels 4,096 at the most
-pub count-range : (s : Shape) (l : ℕ) → Limits s → l < s .levels → (1 ≤ count s l) × (count s l ≤ 4096)
+-- a level has at least one block, and the deepest of five levels has the most
+pub count-range : (s : Shape) (l : ℕ) → Limits s → l < s .levels → (1 ≤ count s l) × (count s l ≤ mostCount)
 unfolding count parts
 count-range s l h k = (
   mul-le-mul (h .tops .0) (pow-le-pow-right {n = 4} (omega arith) {i = 0} {j = l} (omega arith)),

@@ -9,6 +9,10 @@ use Rattle.shape.specs.declared.Shape.{Shape}
 unfoldable pub parts : Shape → ℕ
 parts s = 4
 
+-- the most blocks of a level: sixteen top blocks, split four times
+abbrev pub mostCount : ℕ
+mostCount = 4096
+
 -- what the top size is a multiple of: the smallest size is then a positive multiple of 4, and 4^levels divides the top size
 unfoldable pub unit : Shape → ℕ
 unit s = 4 * parts s ^ (s .levels - 1)

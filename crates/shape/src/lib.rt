@@ -5,7 +5,7 @@ pub mod time;
 ghost use mathlib.Core.Path.{_≡_};
 ghost use mathlib.Core.Bool.{true};
 ghost use Prim.Native.Nat.{_^_, _<_, _≤_};
-ghost use Rattle.shape.specs.Limits.{parts, allowed};
+ghost use Rattle.shape.specs.Limits.{parts, mostCount, allowed};
 ghost use Rattle.shape.specs.Blocks.{size, count, offset, levelFor, id, above, place, blocks, bytes};
 
 #[repr(C)]
@@ -37,6 +37,9 @@ impl Shape {
     pub const MOST_TOPS: usize = 16;
 
     pub const MOST_TOP_SIZE: usize = 65536;
+
+    // The most blocks of a level.
+    pub const MOST_COUNT: usize = 4096;
 
     pub const MOST_BLOCKS: usize = 5456;
 
@@ -79,7 +82,7 @@ impl Shape {
     // How many blocks a level has.
     pub fn count(self, level: usize) -> usize
         requires { ⌜ (allowed self ≡ true) × (level < self .levels) ⌝ }
-        ensures { λ r. ⌜ (r ≡ count self level) × ((1 ≤ r) × (r ≤ 4096)) ⌝ }
+        ensures { λ r. ⌜ (r ≡ count self level) × ((1 ≤ r) × (r ≤ mostCount)) ⌝ }
     {
         self.tops * self.power(level)
     }

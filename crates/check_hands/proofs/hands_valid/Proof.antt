@@ -1,39 +1,28 @@
--- `check_hands::hands_valid` meets its contract: where every block in hand is marked, the marks agree with the states just where both
--- correspondences hold.
+-- `check_hands::hands_valid` meets its contract: both correspondences, each of calls that have a block in hand.
 -- Assumes nothing.
-use mathlib.Core.Path.{_∙_}
-use native.Mathlib.Omega.{arith}
-use borrow.Author.Needs.{needs}
-use Rattle.shape.specs.Laws.{limits, blocks-most}
-use Rattle.check_hands.specs.Hands.{marks-agree, zeros}
+use mathlib.Core.Path.{_≡_, ap₂}
+use mathlib.Core.Bool.{true, _&&_, _||_, or-true}
+use Rattle.rules.specs.declared.Call.{Call}
+use Rattle.rules.specs.Numbers.{DIVIDING, RELEASING}
+use Rattle.rules.specs.Valid.{usesBlock}
+use Rattle.check_hands.specs.Hands.{atStage, hands}
 use Rattle.check_hands.proofs.hands_valid.Statement.{statement}
 use Rattle.check_hands.proofs.hands_valid.Tie as tie
 
-slice-aggregate-mark-hands : tie.Need-slice-aggregate-mark-hands
-slice-aggregate-mark-hands c = search needs
+dividing-holds : (c : Call) → atStage DIVIDING c ≡ true → usesBlock c ≡ true
+dividing-holds c e = rw e
 
-mark-hands-requires : tie.Need-mark-hands-requires
-mark-hands-requires c κs =
-    let p = c .before .before .before .pre in
-    ((p .0, p .2, p .3), (blocks-most _ (limits _ (p .0)), zeros 5456))
+releasing-holds : (c : Call) → atStage RELEASING c ≡ true → usesBlock c ≡ true
+releasing-holds c e = rw (e, or-true)
 
-slice-aggregate-marks-agree : tie.Need-slice-aggregate-marks-agree
-slice-aggregate-marks-agree c = search needs
+one-to-one-requires : tie.Need-one-to-one-requires
+one-to-one-requires c κs = hands _ _ _ (atStage DIVIDING) dividing-holds (c .before .before .pre)
 
-marks-agree-requires : tie.Need-marks-agree-requires
-marks-agree-requires c κs = omega (arith, c .before .before .mark-hands .kept .1 .1 .0, blocks-most _ (limits _ (c .before .before .before .before .before .before .pre .0)))
+one-to-one-requires-2 : tie.Need-one-to-one-requires-2
+one-to-one-requires-2 c κs = hands _ _ _ (atStage RELEASING) releasing-holds (c .before .before .before .pre)
 
 returns : tie.Need-returns
-returns c =
-    let p = c .before .before .before .before .before .before .before .pre in
-    c .marks-agree .ensures ∙ marks-agree _ _ _ _ (p .1) (limits _ (p .0) .threads .1) (c .before .before .before .mark-hands .ensures)
+returns c = ap₂ _&&_ (c .before .one-to-one .ensures) (c .one-to-one2 .ensures)
 
 pub hands-valid-spec : {M : Type 1} → statement M
-hands-valid-spec =
-    tie.close
-    (tie.spec
-    slice-aggregate-mark-hands
-    mark-hands-requires
-    slice-aggregate-marks-agree
-    marks-agree-requires
-    returns)
+hands-valid-spec = tie.close (tie.spec one-to-one-requires one-to-one-requires-2 returns)

@@ -1,16 +1,19 @@
 -- `check_lists::level_valid` meets its contract: what validity says of one level, in the order in which the code tries it.
 -- Assumes nothing.
-use mathlib.Core.Path.{sym, _∙_, ap}
-use mathlib.Core.Bool.{Bool, _&&_}
+use mathlib.Core.Path.{sym, _∙_}
 use lib.Seq.{length-take-le}
-use borrow.Author.Tests.{not-true, not-false}
-use Rattle.check_lists.proofs.Level.{level-long, level-zeros, level-below, Tried, level-marks}
 use borrow.Author.Needs.{needs}
+use borrow.Author.Tests.{not-true, not-false}
+use Rattle.check_lists.proofs.Level.{level-long, level-zeros, level-below, Tried, level-marks, tried-below}
+use Rattle.check_lists.proofs.Marking.{unmarked}
 use Rattle.check_lists.proofs.level_valid.Statement.{statement}
 use Rattle.check_lists.proofs.level_valid.Tie as tie
 
 -- what is known behind the third test
-tried : (c : tie.Else3) → Tried (c .before .before .before .before .before .before .before .before .before .before .args .states .now) (c .before .before .before .before .before .before .before .before .before .before .args .cells .now) (c .before .before .before .before .before .before .before .before .before .before .args .used)
+tried :
+    (c : tie.Else3) →
+    let a = c .before .before .before .before .before .before .before .before .before .args in
+    Tried (a .states .now) (a .cells .now) (a .used)
 tried c =
     record {
       fits = c .before .before .before .before .before .before .if1 .left;
@@ -52,19 +55,18 @@ returns-3 : tie.Need-returns-3
 returns-3 c = level-below _ _ _ (sym (c .before .all-below .ensures) ∙ not-true _ (c .if3 .taken))
 
 mark-requires : tie.Need-mark-requires
-mark-requires c κs = (rw (c .before .before .before .before .before .before .before .before .before .before .before .pre .marks-long) (tried (c .before) .inside), c .before .before .before .before .before .before .before .before .before .before .before .pre .unset)
+mark-requires c κs = (tried-below (tried (c .before)) (c .before .before .before .before .before .before .before .before .before .before .pre .0), unmarked)
 
-agree-requires : tie.Need-agree-requires
-agree-requires c κs = search needs
+count-of-requires : tie.Need-count-of-requires
+count-of-requires c κs = search needs
 
-same-length : tie.Need-same-length
-same-length c = search needs
+all-marked-requires : tie.Need-all-marked-requires
+all-marked-requires c κs = search needs
 
 returns-4 : tie.Need-returns-4
 returns-4 c =
-    ap (λ (b : Bool). c .before .before .before .before .mark .result && b) (c .agree .ensures)
-    ∙ level-marks (c .before .before .before .before .mark .last .1 .0) (tried (c .before .before .before .before .before .before))
-    (rw (c .before .before .before .before .before .before .before .before .before .before .before .before .before .before .before .before .pre .marks-long) at (c .before .before .before .before .mark .ensures))
+    level-marks (c .before .before .before .mark .last .1 .0) (tried (c .before .before .before .before .before)) (c .before .before .before .before .before .before .before .before .before .before .before .before .before .before .pre .0) (c .before .before .before .mark .ensures) (c .before .before .count-of .ensures)
+    (c .all-marked .ensures)
 
 pub level-valid-spec : {M : Type 1} → statement M
 level-valid-spec =
@@ -82,6 +84,6 @@ level-valid-spec =
     all-below-requires
     returns-3
     mark-requires
-    agree-requires
-    same-length
+    count-of-requires
+    all-marked-requires
     returns-4)

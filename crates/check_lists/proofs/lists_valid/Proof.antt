@@ -1,38 +1,110 @@
--- `check_lists::lists_valid` meets its contract: an array of zeros serves as marks, a short one where the blocks are few.
+-- `check_lists::lists_valid` meets its contract: the levels passed are as validity says.
 -- Assumes nothing.
+use mathlib.Core.Path.{sym, _∙_}
+use Prim.Native.Nat.{_-_}
 use native.Mathlib.Omega.{arith}
-use borrow.Author.Needs.{needs}
-use Rattle.shape.specs.Laws.{limits, blocks-most}
-use Rattle.check_lists.proofs.Levels.{tables}
+use borrow.Author.Tests.{not-true, not-false}
+use Rattle.check_lists.proofs.Levels.{Reached, Room, reached-none, room, one-level, levels-fail, levels-more, levels-end}
 use Rattle.check_lists.proofs.lists_valid.Statement.{statement}
 use Rattle.check_lists.proofs.lists_valid.Tie as tie
 
-slice-aggregate-levels-valid : tie.Need-slice-aggregate-levels-valid
-slice-aggregate-levels-valid c = search needs
+abbrev Inv-loop : tie.InvT-loop
+Inv-loop s states lists levels level₀ from₀ level from = Reached s states lists level from
 
-levels-valid-requires : tie.Need-levels-valid-requires
-levels-valid-requires c κs = tables _ _ _ 341 (c .before .before .before .before .pre) (omega (arith, c .before .before .before .before .pre .1))
+abbrev μ-loop : tie.MeasureT-loop
+μ-loop s states lists levels level₀ from₀ level from = levels - level
 
-returns : tie.Need-returns
-returns c = search needs
+-- the level's blocks have their places
+roomed :
+    (c : tie.After-count Inv-loop μ-loop) →
+    let a = c .before .before .before .before .before .args in
+    let turn = c .before .before .loop in
+    Room (a .s) (a .states .now) (a .lists .now) (turn .level) (turn .from) (c .count .result)
+roomed c = room (c .before .before .loop .inv) (c .before .loop-test .taken) (c .count .ensures .0)
 
-slice-aggregate-levels-valid-2 : tie.Need-slice-aggregate-levels-valid-2
-slice-aggregate-levels-valid-2 c = search needs
+loop-holds : tie.Need-loop-holds Inv-loop μ-loop
+loop-holds c = reached-none _ _ _ (c .before .before .pre)
 
-levels-valid-requires-2 : tie.Need-levels-valid-requires-2
-levels-valid-requires-2 c κs =
-    tables _ _ _ 5456 (c .before .before .before .before .pre) (blocks-most _ (limits _ (c .before .before .before .before .pre .0)))
+count-requires : tie.Need-count-requires Inv-loop μ-loop
+count-requires c κs = (c .before .loop .inv .shape, c .loop-test .taken)
 
-returns-2 : tie.Need-returns-2
-returns-2 c = search needs
+add-to : tie.Need-add-to Inv-loop μ-loop
+add-to c = omega (arith, roomed c)
+
+add-start : tie.Need-add-start Inv-loop μ-loop
+add-start c = omega (arith, roomed c)
+
+add-end : tie.Need-add-end Inv-loop μ-loop
+add-end c = omega (arith, roomed c)
+
+sub-level-valid : tie.Need-sub-level-valid Inv-loop μ-loop
+sub-level-valid c = omega arith
+
+part-level-valid-start : tie.Need-part-level-valid-start Inv-loop μ-loop
+part-level-valid-start c = omega (arith, roomed c)
+
+part-level-valid-end : tie.Need-part-level-valid-end Inv-loop μ-loop
+part-level-valid-end c = omega (arith, roomed c)
+
+mul-level-valid : tie.Need-mul-level-valid Inv-loop μ-loop
+mul-level-valid c = omega (arith, roomed (c .before))
+
+sub-level-valid-2 : tie.Need-sub-level-valid-2 Inv-loop μ-loop
+sub-level-valid-2 c = omega (arith, roomed (c .before))
+
+part-level-valid-start-2 : tie.Need-part-level-valid-start-2 Inv-loop μ-loop
+part-level-valid-start-2 c = omega (arith, roomed (c .before))
+
+part-level-valid-end-2 : tie.Need-part-level-valid-end-2 Inv-loop μ-loop
+part-level-valid-end-2 c = omega (arith, roomed (c .before))
+
+mul-level-valid-2 : tie.Need-mul-level-valid-2 Inv-loop μ-loop
+mul-level-valid-2 c = omega (arith, roomed (c .before .before))
+
+shared-slice-read-level-valid : tie.Need-shared-slice-read-level-valid Inv-loop μ-loop
+shared-slice-read-level-valid c = omega (arith, roomed (c .before .before .before))
+
+level-valid-requires : tie.Need-level-valid-requires Inv-loop μ-loop
+level-valid-requires c κs = one-level (roomed (c .before .before .before))
+
+returns : tie.Need-returns Inv-loop μ-loop
+returns c = levels-fail (roomed (c .before .before .before .before .before)) (sym (c .before .level-valid .ensures) ∙ not-true _ (c .if1 .taken))
+
+add-level : tie.Need-add-level Inv-loop μ-loop
+add-level c = omega (arith, roomed (c .before .before .before .before .before))
+
+loop-less : tie.Need-loop-less Inv-loop μ-loop
+loop-less c = omega (arith, roomed (c .before .before .before .before .before))
+
+loop-again : tie.Need-loop-again Inv-loop μ-loop
+loop-again c = levels-more (c .before .before .before .before .before .before .before .loop .inv) (roomed (c .before .before .before .before .before)) (sym (c .before .level-valid .ensures) ∙ not-false _ (c .if1 .left))
+
+returns-2 : tie.Need-returns-2 Inv-loop μ-loop
+returns-2 c = levels-end (c .before .loop .inv) (c .loop-test .left)
 
 pub lists-valid-spec : {M : Type 1} → statement M
 lists-valid-spec =
     tie.close
     (tie.spec
-    slice-aggregate-levels-valid
-    levels-valid-requires
+    Inv-loop
+    μ-loop
+    loop-holds
+    count-requires
+    add-to
+    add-start
+    add-end
+    sub-level-valid
+    part-level-valid-start
+    part-level-valid-end
+    mul-level-valid
+    sub-level-valid-2
+    part-level-valid-start-2
+    part-level-valid-end-2
+    mul-level-valid-2
+    shared-slice-read-level-valid
+    level-valid-requires
     returns
-    slice-aggregate-levels-valid-2
-    levels-valid-requires-2
+    add-level
+    loop-less
+    loop-again
     returns-2)

@@ -1,9 +1,13 @@
--- `check_calls::call::call_kept` meets its contract: the tests are the definition's own.
+-- `check_calls::call::call_kept` meets its contract: a closed call holds zeros, and of an open one the tests are the definition's own.
 -- Assumes nothing.
 use borrow.Author.Needs.{needs}
 use Rattle.rules.specs.Valid.{targetKept, sizeKept, foundKept, callKept}
+use Rattle.check_calls.proofs.Closed.{closed-kept}
 use Rattle.check_calls.proofs.call.call_kept.Statement.{statement}
 use Rattle.check_calls.proofs.call.call_kept.Tie as tie
+
+returns : tie.Need-returns
+returns c = closed-kept _ _ _ (c .before .before .before .before .before .if1 .taken)
 
 fields-used-requires : tie.Need-fields-used-requires
 fields-used-requires c κs = search needs
@@ -23,18 +27,19 @@ deadline-kept-requires c κs = search needs
 may-wait-requires : tie.Need-may-wait-requires
 may-wait-requires c κs = search needs
 
-returns : tie.Need-returns
+returns-2 : tie.Need-returns-2
 unfolding callKept targetKept sizeKept foundKept
-returns c = cc
+returns-2 c = cc
 
 pub call-kept-spec : {M : Type 1} → statement M
 call-kept-spec =
     tie.close
     (tie.spec
+    returns
     fields-used-requires
     hand-inside-requires
     not-deeper-requires
     not-deeper-requires-2
     deadline-kept-requires
     may-wait-requires
-    returns)
+    returns-2)

@@ -10,13 +10,13 @@ use mathlib.Core.Path.{_≡_, ap, sym, subst}
 use mathlib.Core.Bool.{true}
 use Prim.Native.Nat.{ℕ, _*_, _^_, _≤_, _<_}
 use Rattle.shape.specs.declared.Shape.{Shape}
-use Rattle.shape.specs.Limits.{parts, allowed}
+use Rattle.shape.specs.Limits.{parts, mostCount, allowed}
 use Rattle.shape.proofs.Shape.count.Statement.{statement}
 use Rattle.shape.proofs.Shape.count.Tie as tie
 
 counted :
     (s : Shape) (l n : ℕ) → allowed s ≡ true → l < s .levels → n ≡ parts s ^ l →
-    (s .tops * n ≡ count s l) × ((1 ≤ s .tops * n) × (s .tops * n ≤ 4096))
+    (s .tops * n ≡ count s l) × ((1 ≤ s .tops * n) × (s .tops * n ≤ mostCount))
 unfolding count
 counted s l n h k e = rw e (omega (arith, count-range s l (limits s h) k))
 

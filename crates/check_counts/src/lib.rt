@@ -1,0 +1,36 @@
+// How many blocks are in a state.
+ghost use mathlib.Core.Path.{_≡_};
+ghost use Prim.Native.Nat.{_≤_};
+ghost use lib.ListN.{length};
+ghost use Rattle.check_counts.specs.Counted.{few, counted};
+
+// So many states are counted in a byte, which is quickest.
+const FEW: usize = 192;
+
+// How many of a few states are this one.
+fn count_few(states: &[u8], state: u8) -> u8
+    requires { ⌜ length (now states) ≤ few ⌝ }
+    ensures { λ r. ⌜ r ≡ counted (now (states .entry)) state ⌝ }
+{
+    let mut sum = 0;
+    let mut i = 0;
+    while i < states.len() {
+        sum += (states[i] == state) as u8;
+        i += 1;
+    }
+    sum
+}
+
+// How many states are this one.
+pub fn count_of(states: &[u8], state: u8) -> usize
+    ensures { λ r. ⌜ r ≡ counted (now (states .entry)) state ⌝ }
+{
+    let mut sum = 0;
+    let mut from = 0;
+    while FEW <= states.len() - from {
+        let to = from + FEW;
+        sum += count_few(&states[from..to], state) as usize;
+        from = to;
+    }
+    sum + count_few(&states[from..], state) as usize
+}

@@ -1,0 +1,82 @@
+-- `check_lists::marks::all_marked` meets its contract: the flag is the test of every block of the rows passed, and the rest is a row.
+-- Assumes nothing.
+use Prim.Native.Nat.{_-_}
+use native.Mathlib.Omega.{arith}
+use borrow.Author.Needs.{needs}
+use lib.ListN.{length, length-take}
+use Rattle.check_lists.proofs.Marking.{Rows, rows-none, rows-part, rows-more}
+use Rattle.check_lists.proofs.marks.all_marked.Statement.{statement}
+use Rattle.check_lists.proofs.marks.all_marked.Tie as tie
+
+abbrev Inv-loop : tie.InvT-loop
+Inv-loop states marks ok₀ bit₀ from₀ ok bit from = Rows states marks ok bit from
+
+abbrev μ-loop : tie.MeasureT-loop
+μ-loop states marks ok₀ bit₀ from₀ ok bit from = length states - from
+
+loop-holds : tie.Need-loop-holds Inv-loop μ-loop
+loop-holds c = rows-none _ _
+
+sub-loop : tie.Need-sub-loop Inv-loop μ-loop
+sub-loop c = omega arith
+
+add-to : tie.Need-add-to Inv-loop μ-loop
+add-to c = omega arith
+
+sub-row-marked : tie.Need-sub-row-marked Inv-loop μ-loop
+sub-row-marked c = omega arith
+
+part-row-marked-start : tie.Need-part-row-marked-start Inv-loop μ-loop
+part-row-marked-start c = omega arith
+
+part-row-marked-end : tie.Need-part-row-marked-end Inv-loop μ-loop
+part-row-marked-end c = omega arith
+
+row-marked-requires : tie.Need-row-marked-requires Inv-loop μ-loop
+row-marked-requires c κs = (simp length-take (omega arith), simp length-take (omega arith))
+
+add-bit : tie.Need-add-bit Inv-loop μ-loop
+add-bit c = omega arith
+
+loop-less : tie.Need-loop-less Inv-loop μ-loop
+loop-less c = omega arith
+
+loop-again : tie.Need-loop-again Inv-loop μ-loop
+loop-again c = rows-more (c .before .before .before .loop .inv) (omega arith) (c .row-marked .ensures)
+
+sub-row-marked-2 : tie.Need-sub-row-marked-2 Inv-loop μ-loop
+sub-row-marked-2 c = omega arith
+
+part-row-marked-start-2 : tie.Need-part-row-marked-start-2 Inv-loop μ-loop
+part-row-marked-start-2 c = omega arith
+
+part-row-marked-end-2 : tie.Need-part-row-marked-end-2 Inv-loop μ-loop
+part-row-marked-end-2 c = omega arith
+
+row-marked-requires-2 : tie.Need-row-marked-requires-2 Inv-loop μ-loop
+row-marked-requires-2 c κs = (simp length-take (omega arith), simp length-take (omega arith))
+
+returns : tie.Need-returns Inv-loop μ-loop
+returns c = rows-part _ (c .before .before .before .loop .inv) (omega arith) (omega arith) (omega arith) (c .row-marked2 .ensures)
+
+pub all-marked-spec : {M : Type 1} → statement M
+all-marked-spec =
+    tie.close
+    (tie.spec
+    Inv-loop
+    μ-loop
+    loop-holds
+    sub-loop
+    add-to
+    sub-row-marked
+    part-row-marked-start
+    part-row-marked-end
+    row-marked-requires
+    add-bit
+    loop-less
+    loop-again
+    sub-row-marked-2
+    part-row-marked-start-2
+    part-row-marked-end-2
+    row-marked-requires-2
+    returns)
