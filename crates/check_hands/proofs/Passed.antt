@@ -76,10 +76,10 @@ looked-more {s} {states} {calls} {st} {test} {ok} {n} {t} c p h e q k r =
 
 -- all calls
 pub looked-all :
-    {s : Shape} {states calls : List ℕ} {st : ℕ} (stage : ℕ) {ok : Bool} {n t m : ℕ} → Hands s states calls (atStage stage) →
-    Looked s states calls st (atStage stage) ok n t → s .threads ≤ t → m ≡ counted states st →
-    (eqb m n && ok) ≡ oneToOne st stage s states calls
+    {s : Shape} {states calls : List ℕ} {st : ℕ} (test : Call → Bool) {ok : Bool} {n t m : ℕ} → Hands s states calls test →
+    Looked s states calls st test ok n t → s .threads ≤ t → m ≡ counted states st →
+    (eqb m n && ok) ≡ oneToOne st test s states calls
 unfolding oneToOne
-looked-all {s} {states} {calls} {st} stage {t = t} h p l e =
+looked-all {s} {states} {calls} {st} test {t = t} h p l e =
     let q : t ≡ s .threads = omega (arith, p .passed .inside) in
-    rw (e, passed-all (p .passed) l, p .told, q) (corresponds s states calls (atStage stage) h st)
+    rw (e, passed-all (p .passed) l, p .told, q) (corresponds s states calls test h st)

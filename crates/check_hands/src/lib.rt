@@ -8,8 +8,8 @@ ghost use Prim.Native.Nat.{_*_};
 ghost use lib.ListN.{length};
 ghost use Rattle.shape.specs.Limits.{allowed};
 ghost use Rattle.shape.specs.Blocks.{blocks};
-ghost use Rattle.rules.specs.Numbers.{CELLS, FREEING, ALLOCATING, DIVIDING, RELEASING};
-ghost use Rattle.rules.specs.Valid.{oneToOne};
+ghost use Rattle.rules.specs.Numbers.{CELLS, FREEING, ALLOCATING};
+ghost use Rattle.rules.specs.Valid.{dividing, releasing, oneToOne};
 ghost use Rattle.check_hands.specs.Hands.{handsInside, atStage, holders, Hands};
 
 // How many calls at a stage have this block in hand.
@@ -31,7 +31,7 @@ fn holders(s: Shape, calls: &[u64], stage: usize, level: usize, block: usize) ->
 // state in hand, and no other call has it.
 fn one_to_one(s: Shape, states: &[u8], calls: &[u64], state: u8, stage: usize) -> bool
     requires { ⌜ Hands s (now states) (now calls) (atStage stage) ⌝ }
-    ensures { λ r. ⌜ r ≡ oneToOne state stage s (now (states .entry)) (now (calls .entry)) ⌝ }
+    ensures { λ r. ⌜ r ≡ oneToOne state (atStage stage) s (now (states .entry)) (now (calls .entry)) ⌝ }
 {
     let mut ok = true;
     let mut sum = 0;
@@ -52,7 +52,7 @@ fn one_to_one(s: Shape, states: &[u8], calls: &[u64], state: u8, stage: usize) -
 // Whether ALLOCATING blocks correspond to dividing calls and FREEING blocks to releasing calls, one to one.
 pub fn hands_valid(s: Shape, states: &[u8], calls: &[u64]) -> bool
     requires { ⌜ (allowed s ≡ true) × (length (now states) ≡ blocks s) × (length (now calls) ≡ CELLS * s .threads) × (handsInside s (now calls) ≡ true) ⌝ }
-    ensures { λ r. ⌜ r ≡ (oneToOne ALLOCATING DIVIDING s (now (states .entry)) (now (calls .entry)) && oneToOne FREEING RELEASING s (now (states .entry)) (now (calls .entry))) ⌝ }
+    ensures { λ r. ⌜ r ≡ (oneToOne ALLOCATING dividing s (now (states .entry)) (now (calls .entry)) && oneToOne FREEING releasing s (now (states .entry)) (now (calls .entry))) ⌝ }
 {
     one_to_one(s, states, calls, rules::ALLOCATING, rules::DIVIDING)
         & one_to_one(s, states, calls, rules::FREEING, rules::RELEASING)

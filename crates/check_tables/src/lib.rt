@@ -9,10 +9,10 @@ ghost use Rattle.shape.specs.Limits.{allowed};
 ghost use Rattle.rules.specs.Tables.{state, lengths};
 ghost use Rattle.rules.specs.Valid.{valid};
 ghost use Rattle.facts.specs.Given.{LengthFacts};
-ghost use Rattle.check_tables.specs.Verdict.{verdict};
+ghost use Rattle.rules.specs.Refusals.{fitting, verdict};
 
 // Whether each table has the length that the shape asks for.
-pub fn lengths(
+fn lengths(
     s: Shape,
     states: &[u8],
     owners: &[u8],
@@ -32,7 +32,7 @@ pub fn lengths(
 }
 
 // Whether tables of the right lengths are a valid state.
-pub fn tables_valid(
+fn tables_valid(
     s: Shape,
     states: &[u8],
     owners: &[u8],
@@ -60,6 +60,26 @@ pub fn tables_valid(
     check_queue::queue_valid(s, calls, queue, d)
 }
 
+// The first of the refusals 1 and 2 that applies, if one does.
+pub fn fitting(
+    s: Shape,
+    states: &[u8],
+    owners: &[u8],
+    lists: &[u16],
+    calls: &[u64],
+    queue: &[u8],
+) -> Verdict
+    ensures { λ r. ⌜ ((d : Device) → r ≡ fitting s (state (now (states .entry)) (now (owners .entry)) (now (lists .entry)) (now (calls .entry)) (now (queue .entry)) d)) ⌝ }
+{
+    if !s.allowed() {
+        return Verdict::Failed(Refusal::ShapeNotAllowed);
+    }
+    if !lengths(s, states, owners, lists, calls, queue) {
+        return Verdict::Failed(Refusal::WrongLength);
+    }
+    Verdict::Passed
+}
+
 // The first of the refusals 1 to 3 that applies, if one does.
 pub fn checked(
     s: Shape,
@@ -72,14 +92,14 @@ pub fn checked(
 ) -> Verdict
     ensures { λ r. ⌜ r ≡ verdict s (state (now (states .entry)) (now (owners .entry)) (now (lists .entry)) (now (calls .entry)) (now (queue .entry)) d) ⌝ }
 {
-    if !s.allowed() {
-        return Verdict::Failed(Refusal::ShapeNotAllowed);
+    let v = fitting(s, states, owners, lists, calls, queue);
+    match v {
+        Verdict::Failed(r) => Verdict::Failed(r),
+        Verdict::Passed => {
+            if !tables_valid(s, states, owners, lists, calls, queue, d) {
+                return Verdict::Failed(Refusal::NotValid);
+            }
+            Verdict::Passed
+        }
     }
-    if !lengths(s, states, owners, lists, calls, queue) {
-        return Verdict::Failed(Refusal::WrongLength);
-    }
-    if !tables_valid(s, states, owners, lists, calls, queue, d) {
-        return Verdict::Failed(Refusal::NotValid);
-    }
-    Verdict::Passed
 }

@@ -65,6 +65,12 @@ passed s T =
     by-verdict (λ v. v ≡ Passed → Sound s T) (λ _ e. absurd (failed e)) (λ _ e. absurd (failed e)) (λ _ e. absurd (failed e))
     (λ g _. g)
 
+pub fitting-passed : (s : Shape) (T : State) → fitting s T ≡ Passed → (allowed s ≡ true) × (lengths s T ≡ true)
+fitting-passed s T =
+    by-fitting (λ v. v ≡ Passed → (allowed s ≡ true) × (lengths s T ≡ true)) (λ _ e. absurd (failed e))
+    (λ _ e. absurd (failed e))
+    (λ a l _. (a, l))
+
 -- a call that works out a verdict gives its refusal where that failed, and goes on where it passed
 module _ {A : Type 0} {v w : Verdict} (give : Refusal → A) (rest : A) (e : v ≡ w) where
   pub stops : {r : Refusal} → v ≡ Failed r → give r ≡ through give w rest

@@ -3,7 +3,6 @@ use rules::Answer;
 use rules::Covered;
 use rules::Device;
 use rules::Mapped;
-use rules::Verdict;
 use shape::Shape;
 use shape::time::Millis;
 ghost use mathlib.Core.Path.{_≡_};
@@ -44,11 +43,7 @@ pub fn ask(
 ) -> Answer
     ensures { λ r. ⌜ outcome r (state (now (states .entry)) (now (owners .entry)) (now (lists .entry)) (now (calls .exit)) (now (queue .entry)) d) ≡ ask s (state (now (states .entry)) (now (owners .entry)) (now (lists .entry)) (now (calls .entry)) (now (queue .entry)) d) t size wait ⌝ }
 {
-    let v = check_tables::checked(s, states, owners, lists, calls, queue, d);
-    match v {
-        Verdict::Failed(r) => Answer::Refused(r),
-        Verdict::Passed => pool_sound::ask(d, s, calls, t, size, wait),
-    }
+    pool_checked::ask(d, s, states, owners, lists, calls, queue, t, size, wait)
 }
 
 // Go on: thread t's call makes its next step.
@@ -83,11 +78,7 @@ pub fn give_back(
 ) -> Answer
     ensures { λ r. ⌜ outcome r (state (now (states .exit)) (now (owners .exit)) (now (lists .entry)) (now (calls .exit)) (now (queue .entry)) d) ≡ give s (state (now (states .entry)) (now (owners .entry)) (now (lists .entry)) (now (calls .entry)) (now (queue .entry)) d) t id ⌝ }
 {
-    let v = check_tables::checked(s, states, owners, lists, calls, queue, d);
-    match v {
-        Verdict::Failed(r) => Answer::Refused(r),
-        Verdict::Passed => pool_sound::give_back(d, s, states, owners, calls, t, id),
-    }
+    pool_checked::give_back(d, s, states, owners, lists, calls, queue, t, id)
 }
 
 // Switch: thread t runs.
@@ -137,11 +128,7 @@ pub fn whole(
 ) -> Answer
     ensures { λ r. ⌜ r ≡ whole s (state (now (states .entry)) (now (owners .entry)) (now (lists .entry)) (now (calls .entry)) (now (queue .entry)) d) ⌝ }
 {
-    let v = check_tables::checked(s, states, owners, lists, calls, queue, d);
-    match v {
-        Verdict::Failed(r) => Answer::Refused(r),
-        Verdict::Passed => pool_sound::whole(s, states, calls),
-    }
+    pool_checked::whole(d, s, states, owners, lists, calls, queue)
 }
 
 // Cover: the undivided block over a byte offset, with its state.
@@ -157,11 +144,7 @@ pub fn cover(
 ) -> Covered
     ensures { λ r. ⌜ r ≡ cover s (state (now (states .entry)) (now (owners .entry)) (now (lists .entry)) (now (calls .entry)) (now (queue .entry)) d) offset ⌝ }
 {
-    let v = check_tables::checked(s, states, owners, lists, calls, queue, d);
-    match v {
-        Verdict::Failed(r) => Covered::Refused(r),
-        Verdict::Passed => questions::cover::cover_at(s, states, offset),
-    }
+    pool_checked::cover(d, s, states, owners, lists, calls, queue, offset)
 }
 
 // Map: the ids of all undivided blocks by address into the row.
@@ -177,9 +160,5 @@ pub fn map(
 ) -> Mapped
     ensures { λ r. ⌜ mapOutcome r (now (row .exit)) ≡ mapPool s (state (now (states .entry)) (now (owners .entry)) (now (lists .entry)) (now (calls .entry)) (now (queue .entry)) d) (now (row .entry)) ⌝ }
 {
-    let v = check_tables::checked(s, states, owners, lists, calls, queue, d);
-    match v {
-        Verdict::Failed(r) => Mapped::Refused(r),
-        Verdict::Passed => questions::map::map_row(s, states, row),
-    }
+    pool_checked::map(d, s, states, owners, lists, calls, queue, row)
 }

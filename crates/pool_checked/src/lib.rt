@@ -1,15 +1,18 @@
-// The calls that may change the record, with the record by value: it goes in beside the tables and comes back with the answer. The public
-// calls of crate `pool` lend it.
+// The nine calls on any tables, each the verdict on the tables and then its step or its answer. A call that may change the record takes
+// it by value and gives it back with the answer; the public calls of crate `pool` lend it.
 use rules::Answer;
+use rules::Covered;
 use rules::Device;
+use rules::Mapped;
 use rules::Ran;
-use rules::Refusal;
 use rules::Verdict;
 use shape::Shape;
+use shape::time::Millis;
 ghost use mathlib.Core.Path.{_≡_};
 ghost use Rattle.rules.specs.Tables.{state};
 ghost use Rattle.rules.specs.Steps.{outcome};
-ghost use Rattle.rules.specs.Calls.{build, goOn, switch, tick};
+ghost use Rattle.rules.specs.Calls.{build, ask, goOn, give, switch, tick};
+ghost use Rattle.rules.specs.Questions.{whole, cover, mapOutcome, mapPool};
 
 // Build: the lent tables become those of a fresh pool, and the record's clock and runner with them.
 pub fn build(
@@ -23,25 +26,44 @@ pub fn build(
 ) -> Ran
     ensures { λ r. ⌜ outcome (r .answer) (state (now (states .exit)) (now (owners .exit)) (now (lists .exit)) (now (calls .exit)) (now (queue .exit)) (r .device)) ≡ build s (state (now (states .entry)) (now (owners .entry)) (now (lists .entry)) (now (calls .entry)) (now (queue .entry)) d) ⌝ }
 {
-    if !s.allowed() {
-        return Ran {
-            answer: Answer::Refused(Refusal::ShapeNotAllowed),
+    let v = check_tables::fitting(s, states, owners, lists, calls, queue);
+    match v {
+        Verdict::Failed(r) => Ran {
+            answer: Answer::Refused(r),
             device: d,
-        };
-    }
-    if !check_tables::lengths(s, states, owners, lists, calls, queue) {
-        return Ran {
-            answer: Answer::Refused(Refusal::WrongLength),
-            device: d,
-        };
-    }
-    tables_fresh::make_fresh(s, states, owners, lists, calls, queue);
-    Ran {
-        answer: Answer::Built,
-        device: Device {
-            clock: 0,
-            running: 0,
         },
+        Verdict::Passed => {
+            tables_fresh::make_fresh(s, states, owners, lists, calls, queue);
+            Ran {
+                answer: Answer::Built,
+                device: Device {
+                    clock: 0,
+                    running: 0,
+                },
+            }
+        }
+    }
+}
+
+// Ask: thread t asks for a block of at least this size, and says how long it would wait.
+pub fn ask(
+    d: Device,
+    s: Shape,
+    states: &[u8],
+    owners: &[u8],
+    lists: &[u16],
+    calls: &mut [u64],
+    queue: &[u8],
+    t: usize,
+    size: usize,
+    wait: Millis,
+) -> Answer
+    ensures { λ r. ⌜ outcome r (state (now (states .entry)) (now (owners .entry)) (now (lists .entry)) (now (calls .exit)) (now (queue .entry)) d) ≡ ask s (state (now (states .entry)) (now (owners .entry)) (now (lists .entry)) (now (calls .entry)) (now (queue .entry)) d) t size wait ⌝ }
+{
+    let v = check_tables::checked(s, states, owners, lists, calls, queue, d);
+    match v {
+        Verdict::Failed(r) => Answer::Refused(r),
+        Verdict::Passed => pool_sound::ask(d, s, calls, t, size, wait),
     }
 }
 
@@ -65,6 +87,27 @@ pub fn go_on(
             device: d,
         },
         Verdict::Passed => pool_sound::go_on(d, s, states, owners, lists, calls, queue, t),
+    }
+}
+
+// Give back: thread t gives back the block with this id.
+pub fn give_back(
+    d: Device,
+    s: Shape,
+    states: &mut [u8],
+    owners: &mut [u8],
+    lists: &[u16],
+    calls: &mut [u64],
+    queue: &[u8],
+    t: usize,
+    id: usize,
+) -> Answer
+    ensures { λ r. ⌜ outcome r (state (now (states .exit)) (now (owners .exit)) (now (lists .entry)) (now (calls .exit)) (now (queue .entry)) d) ≡ give s (state (now (states .entry)) (now (owners .entry)) (now (lists .entry)) (now (calls .entry)) (now (queue .entry)) d) t id ⌝ }
+{
+    let v = check_tables::checked(s, states, owners, lists, calls, queue, d);
+    match v {
+        Verdict::Failed(r) => Answer::Refused(r),
+        Verdict::Passed => pool_sound::give_back(d, s, states, owners, calls, t, id),
     }
 }
 
@@ -110,5 +153,64 @@ pub fn tick(
             device: d,
         },
         Verdict::Passed => pool_sound::tick(d, s, calls, queue),
+    }
+}
+
+// Whole: whether every byte has come home and no call is open.
+pub fn whole(
+    d: Device,
+    s: Shape,
+    states: &[u8],
+    owners: &[u8],
+    lists: &[u16],
+    calls: &[u64],
+    queue: &[u8],
+) -> Answer
+    ensures { λ r. ⌜ r ≡ whole s (state (now (states .entry)) (now (owners .entry)) (now (lists .entry)) (now (calls .entry)) (now (queue .entry)) d) ⌝ }
+{
+    let v = check_tables::checked(s, states, owners, lists, calls, queue, d);
+    match v {
+        Verdict::Failed(r) => Answer::Refused(r),
+        Verdict::Passed => pool_sound::whole(s, states, calls),
+    }
+}
+
+// Cover: the undivided block over a byte offset, with its state.
+pub fn cover(
+    d: Device,
+    s: Shape,
+    states: &[u8],
+    owners: &[u8],
+    lists: &[u16],
+    calls: &[u64],
+    queue: &[u8],
+    offset: usize,
+) -> Covered
+    ensures { λ r. ⌜ r ≡ cover s (state (now (states .entry)) (now (owners .entry)) (now (lists .entry)) (now (calls .entry)) (now (queue .entry)) d) offset ⌝ }
+{
+    let v = check_tables::checked(s, states, owners, lists, calls, queue, d);
+    match v {
+        Verdict::Failed(r) => Covered::Refused(r),
+        Verdict::Passed => questions::cover::cover_at(s, states, offset),
+    }
+}
+
+// Map: the ids of all undivided blocks by address into the row.
+pub fn map(
+    d: Device,
+    s: Shape,
+    states: &[u8],
+    owners: &[u8],
+    lists: &[u16],
+    calls: &[u64],
+    queue: &[u8],
+    row: &mut [u32],
+) -> Mapped
+    ensures { λ r. ⌜ mapOutcome r (now (row .exit)) ≡ mapPool s (state (now (states .entry)) (now (owners .entry)) (now (lists .entry)) (now (calls .entry)) (now (queue .entry)) d) (now (row .entry)) ⌝ }
+{
+    let v = check_tables::checked(s, states, owners, lists, calls, queue, d);
+    match v {
+        Verdict::Failed(r) => Mapped::Refused(r),
+        Verdict::Passed => questions::map::map_row(s, states, row),
     }
 }

@@ -17,6 +17,7 @@ use Rattle.rules.specs.declared.script.Record.the-variants.{Pool, Ask, ShortAsk
 use Rattle.rules.specs.declared.script.Read.{Read}
 use Rattle.rules.specs.Tables.{State, fresh}
 use Rattle.rules.specs.Steps.{Outcome, outcome}
+use Rattle.rules.specs.Refusals.{fitting}
 use Rattle.rules.specs.Calls.{build}
 use Rattle.rules.specs.Script.{tagAt, readAt}
 use Rattle.rules.specs.Listing.{recordStep, stops, noShape}
@@ -33,11 +34,11 @@ abbrev first : Shape → Outcome
 first s = recordStep noShape (fresh noShape) (Pool s)
 
 refused : (s : Shape) → allowed s ≡ false → outcome (Refused ShapeNotAllowed) (fresh s) ≡ first s
-unfolding recordStep build
+unfolding recordStep build fitting
 refused s a = rw a
 
 built : (s : Shape) → allowed s ≡ true → outcome Built (fresh s) ≡ first s
-unfolding recordStep build
+unfolding recordStep build fitting
 built s a = rw (a, fresh-valid s a .lengths)
 
 built-goes-on : (s : Shape) → allowed s ≡ true → GoesOn (first s)

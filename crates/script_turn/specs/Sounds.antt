@@ -1,6 +1,6 @@
 -- A script's records on sound tables: fresh tables are sound, each record leaves them sound, and none stops the run.
 -- Assumes nothing.
-use mathlib.Core.Path.{_≡_}
+use mathlib.Core.Path.{_≡_, refl}
 use mathlib.Core.Bool.{true, false, true≢false}
 use Rattle.shape.specs.declared.Shape.{Shape}
 use Rattle.rules.specs.declared.script.Record.{Record}
@@ -13,29 +13,34 @@ use Rattle.history.specs.History as history
 use Rattle.history.specs.History.{stepOn}
 use Rattle.proved_valid.specs.Histories.{steps-valid}
 use Rattle.script_read.specs.Forms.{isPool}
-use Rattle.script_turn.specs.GoesOn.{GoesOn, ask-goes-on, go-on-goes-on, give-goes-on, switch-goes-on, tick-goes-on, whole-goes-on}
+use Rattle.script_turn.specs.GoesOn.{GoesOn, steps-go-on}
 
-module _ {s : Shape} {T : State} (g : Sound s T) where
-  -- each record but a shape's is a step
-  pub record-sound : (r : Record) → isPool r ≡ false → Sound s (recordStep s T r .after)
-  unfolding recordStep stepOn
-  record-sound (Pool q) e = absurd (true≢false e)
-  record-sound (Ask t size m) e = steps-valid s T (history.Ask t size (m .0)) g
-  record-sound (ShortAsk t size) e = steps-valid s T (history.Ask t size (shortWait .0)) g
-  record-sound (GoOn t) e = steps-valid s T (history.GoOn t) g
-  record-sound (Give t i) e = steps-valid s T (history.Give t i) g
-  record-sound (Switch t) e = steps-valid s T (history.Switch t) g
-  record-sound Tick e = steps-valid s T history.Tick g
-  record-sound Whole e = g
+-- each record but a shape's is a step
+stepOf : (r : Record) → isPool r ≡ false → history.Step
+stepOf (Pool q) e = absurd (true≢false e)
+stepOf (Ask t size m) e = history.Ask t size (m .0)
+stepOf (ShortAsk t size) e = history.Ask t size (shortWait .0)
+stepOf (GoOn t) e = history.GoOn t
+stepOf (Give t i) e = history.Give t i
+stepOf (Switch t) e = history.Switch t
+stepOf Tick e = history.Tick
+stepOf Whole e = history.Whole
+
+step-of : (s : Shape) (T : State) (r : Record) (e : isPool r ≡ false) → recordStep s T r ≡ stepOn s T (stepOf r e)
+unfolding recordStep stepOn stepOf
+step-of s T (Pool q) e = absurd (true≢false e)
+step-of s T (Ask t size m) e = refl
+step-of s T (ShortAsk t size) e = refl
+step-of s T (GoOn t) e = refl
+step-of s T (Give t i) e = refl
+step-of s T (Switch t) e = refl
+step-of s T Tick e = refl
+step-of s T Whole e = refl
+
+module _ {s : Shape} {T : State} (g : Sound s T) (r : Record) (e : isPool r ≡ false) where
+  pub record-sound : Sound s (recordStep s T r .after)
+  record-sound = rw (step-of s T r e) (steps-valid s T (stepOf r e) g)
 
   -- refusal 1 comes from no record but a shape's
-  pub record-goes-on : (r : Record) → isPool r ≡ false → GoesOn (recordStep s T r)
-  unfolding recordStep
-  record-goes-on (Pool q) e = absurd (true≢false e)
-  record-goes-on (Ask t size m) e = ask-goes-on s T (g .shape) t size m
-  record-goes-on (ShortAsk t size) e = ask-goes-on s T (g .shape) t size shortWait
-  record-goes-on (GoOn t) e = go-on-goes-on s T (g .shape) t
-  record-goes-on (Give t i) e = give-goes-on s T (g .shape) t i
-  record-goes-on (Switch t) e = switch-goes-on s T (g .shape) t
-  record-goes-on Tick e = tick-goes-on s T (g .shape)
-  record-goes-on Whole e = whole-goes-on s T (g .shape)
+  pub record-goes-on : GoesOn (recordStep s T r)
+  record-goes-on = rw (step-of s T r e) (steps-go-on g (stepOf r e))

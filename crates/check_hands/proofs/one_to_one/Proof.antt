@@ -70,7 +70,7 @@ count-of-requires : tie.Need-count-of-requires Inv-loop μ-loop
 count-of-requires c κs = search needs
 
 returns : tie.Need-returns Inv-loop μ-loop
-returns c = looked-all (c .before .before .before .before .before .before .args .stage) (c .before .before .before .before .before .before .pre) (c .before .before .before .loop .inv) (c .before .if1 .left) (c .count-of .ensures)
+returns c = looked-all (atStage (c .before .before .before .before .before .before .args .stage)) (c .before .before .before .before .before .before .pre) (c .before .before .before .loop .inv) (c .before .if1 .left) (c .count-of .ensures)
 
 pub one-to-one-spec : {M : Type 1} → statement M
 one-to-one-spec =

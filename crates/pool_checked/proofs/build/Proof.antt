@@ -1,23 +1,46 @@
--- `pool_checked::build` meets its contract: the two tests are the rule's, and the tables are made fresh.
+-- `pool_checked::build` meets its contract: a verdict that failed is the refusal, and where it passed the tables are made fresh.
 -- Assumes nothing.
-use borrow.Author.Needs.{needs}
+use mathlib.Core.Path.{_≡_, refl, sym, _∙_}
 use denote.Ref.{now}
-use mathlib.Core.Path.{_≡_, sym, _∙_}
-use borrow.Author.Tests.{not-false}
-use Rattle.rules.specs.Tables.{state, fresh}
+use Rattle.rules.specs.Tables.{State, state, fresh}
+use Rattle.rules.specs.Refusals.{refused}
+use Rattle.rules.specs.Calls.{build}
+use Rattle.facts.specs.Verdict.{fitting-passed, stops, goes}
 use Rattle.facts.specs.Given.{length-facts}
-use Rattle.pool_checked.proofs.Builds.{shape-refused, lengths-refused, built}
+use borrow.Author.Needs.{needs}
 use Rattle.pool_checked.proofs.build.Statement.{statement}
 use Rattle.pool_checked.proofs.build.Tie as tie
 
-allowed-requires : tie.Need-allowed-requires
-allowed-requires c κs = search needs
+abbrev first : tie.After-make-fresh → tie.Start
+first c = search needs
 
-returns : tie.Need-returns
-returns c = shape-refused (c .before .before .before .before .before .before .before .args .s) (state (now (c .before .before .before .before .before .before .before .args .states)) (now (c .before .before .before .before .before .before .before .args .owners)) (now (c .before .before .before .before .before .before .before .args .lists)) (now (c .before .before .before .before .before .before .before .args .calls)) (now (c .before .before .before .before .before .before .before .args .queue)) (c .before .before .before .before .before .before .before .args .d)) (c .before .allowed .ensures) (c .if1 .taken)
+abbrev fits : tie.After-make-fresh → tie.After-fitting
+fits c = search needs
 
-lengths-requires : tie.Need-lengths-requires
-lengths-requires c κs = sym (c .before .before .before .before .before .before .allowed .ensures) ∙ not-false (c .before .before .before .before .before .before .allowed .result) (c .before .before .before .before .before .if1 .left)
+abbrev told : tie.After-make-fresh → tie.After-enum-told
+told c = search needs
+
+abbrev tables : tie.Start → State
+tables b =
+    state (now (b .args .states)) (now (b .args .owners)) (now (b .args .lists)) (now (b .args .calls)) (now (b .args .queue)) (b .args .d)
+
+fitting-requires : tie.Need-fitting-requires
+fitting-requires c κs = search needs
+
+enum-known-v : tie.Need-enum-known-v
+enum-known-v c = search needs
+
+enum-told : tie.Need-enum-told
+enum-told c = search needs
+
+make-fresh-requires : tie.Need-make-fresh-requires
+make-fresh-requires c κs =
+    let start : tie.Start = search needs in
+    let fits : tie.After-fitting = search needs in
+    let told : tie.After-enum-told = search needs in
+    let passed = fitting-passed (start .args .s) (tables start) (sym (fits .fitting .ensures (start .args .d)) ∙ told .enum-told .given .1) in
+    let kept = length-facts (start .args .s) (tables start) (passed .1) in
+    (passed .0, record { states = kept .states; owners = kept .owners; lists = kept .lists; calls = kept .calls; queue = kept .queue })
 
 same-length : tie.Need-same-length
 same-length c = search needs
@@ -34,11 +57,12 @@ same-length-4 c = search needs
 same-length-5 : tie.Need-same-length-5
 same-length-5 c = search needs
 
-returns-2 : tie.Need-returns-2
-returns-2 c = lengths-refused (c .before .before .before .before .before .before .before .before .before .before .before .before .before .before .args .s) (state (now (c .before .before .before .before .before .before .before .before .before .before .before .before .before .before .args .states)) (now (c .before .before .before .before .before .before .before .before .before .before .before .before .before .before .args .owners)) (now (c .before .before .before .before .before .before .before .before .before .before .before .before .before .before .args .lists)) (now (c .before .before .before .before .before .before .before .before .before .before .before .before .before .before .args .calls)) (now (c .before .before .before .before .before .before .before .before .before .before .before .before .before .before .args .queue)) (c .before .before .before .before .before .before .before .before .before .before .before .before .before .before .args .d)) (c .before .before .before .before .before .before .before .before .allowed .ensures) (c .before .before .before .before .before .before .before .if1 .left) (c .before .lengths .ensures (c .before .before .before .before .before .before .before .before .before .before .before .before .before .before .args .d)) (c .if2 .taken)
-
-make-fresh-requires : tie.Need-make-fresh-requires
-make-fresh-requires c κs = (sym (c .before .before .before .before .before .before .before .before .before .before .before .before .before .allowed .ensures) ∙ not-false (c .before .before .before .before .before .before .before .before .before .before .before .before .before .allowed .result) (c .before .before .before .before .before .before .before .before .before .before .before .before .if1 .left), length-facts (c .before .before .before .before .before .before .before .before .before .before .before .before .before .before .before .before .before .before .before .args .s) (state (now (c .before .before .before .before .before .before .before .before .before .before .before .before .before .before .before .before .before .before .before .args .states)) (now (c .before .before .before .before .before .before .before .before .before .before .before .before .before .before .before .before .before .before .before .args .owners)) (now (c .before .before .before .before .before .before .before .before .before .before .before .before .before .before .before .before .before .before .before .args .lists)) (now (c .before .before .before .before .before .before .before .before .before .before .before .before .before .before .before .before .before .before .before .args .calls)) (now (c .before .before .before .before .before .before .before .before .before .before .before .before .before .before .before .before .before .before .before .args .queue)) (fresh (c .before .before .before .before .before .before .before .before .before .before .before .before .before .before .before .before .before .before .before .args .s) .threads .device)) (sym (c .before .before .before .before .before .before .lengths .ensures (fresh (c .before .before .before .before .before .before .before .before .before .before .before .before .before .before .before .before .before .before .before .args .s) .threads .device)) ∙ not-false (c .before .before .before .before .before .before .lengths .result) (c .before .before .before .before .before .if2 .left)))
+returns : tie.Need-returns
+unfolding build
+returns c =
+    let start : tie.Start = search needs in
+    let fits : tie.After-fitting = search needs in
+    stops (refused (tables start)) _ (fits .fitting .ensures (start .args .d)) (c .before .v .given .1)
 
 same-length-6 : tie.Need-same-length-6
 same-length-6 c = search needs
@@ -55,27 +79,30 @@ same-length-9 c = search needs
 same-length-10 : tie.Need-same-length-10
 same-length-10 c = search needs
 
-returns-3 : tie.Need-returns-3
-unfolding fresh
-returns-3 c = built (c .before .before .before .before .before .before .before .before .before .before .before .before .before .before .before .before .before .before .before .before .before .before .before .before .before .before .before .before .before .before .args .s) (state (now (c .before .before .before .before .before .before .before .before .before .before .before .before .before .before .before .before .before .before .before .before .before .before .before .before .before .before .before .before .before .before .args .states)) (now (c .before .before .before .before .before .before .before .before .before .before .before .before .before .before .before .before .before .before .before .before .before .before .before .before .before .before .before .before .before .before .args .owners)) (now (c .before .before .before .before .before .before .before .before .before .before .before .before .before .before .before .before .before .before .before .before .before .before .before .before .before .before .before .before .before .before .args .lists)) (now (c .before .before .before .before .before .before .before .before .before .before .before .before .before .before .before .before .before .before .before .before .before .before .before .before .before .before .before .before .before .before .args .calls)) (now (c .before .before .before .before .before .before .before .before .before .before .before .before .before .before .before .before .before .before .before .before .before .before .before .before .before .before .before .before .before .before .args .queue)) (c .before .before .before .before .before .before .before .before .before .before .before .before .before .before .before .before .before .before .before .before .before .before .before .before .before .before .before .before .before .before .args .d)) (c .before .before .before .before .before .before .before .before .before .before .before .before .before .before .before .before .before .before .before .before .before .before .before .before .allowed .ensures) (c .before .before .before .before .before .before .before .before .before .before .before .before .before .before .before .before .before .before .before .before .before .before .before .if1 .left) (c .before .before .before .before .before .before .before .before .before .before .before .before .before .before .before .before .before .lengths .ensures (c .before .before .before .before .before .before .before .before .before .before .before .before .before .before .before .before .before .before .before .before .before .before .before .before .before .before .before .before .before .before .args .d)) (c .before .before .before .before .before .before .before .before .before .before .before .before .before .before .before .before .if2 .left) (c .before .before .before .before .before .before .before .before .before .before .make-fresh .ensures)
+returns-2 : tie.Need-returns-2
+unfolding build fresh
+returns-2 c =
+    let made : tie.After-make-fresh = search needs in
+    let start = first made in
+    goes (refused (tables start)) _ (fits made .fitting .ensures (start .args .d)) (told made .enum-told .given .1) (rw (made .make-fresh .ensures) refl)
 
 pub build-spec : {M : Type 1} → statement M
 build-spec =
     tie.close
     (tie.spec
-    allowed-requires
-    returns
-    lengths-requires
+    fitting-requires
+    enum-known-v
+    enum-told
+    make-fresh-requires
     same-length
     same-length-2
     same-length-3
     same-length-4
     same-length-5
-    returns-2
-    make-fresh-requires
+    returns
     same-length-6
     same-length-7
     same-length-8
     same-length-9
     same-length-10
-    returns-3)
+    returns-2)

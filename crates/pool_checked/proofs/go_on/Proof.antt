@@ -2,7 +2,9 @@
 -- Assumes nothing.
 use denote.Ref.{now}
 use Rattle.rules.specs.Tables.{State, state}
-use Rattle.check_tables.specs.Verdict.{sound, refused}
+use mathlib.Core.Path.{_≡_, sym, _∙_}
+use Rattle.rules.specs.Refusals.{refused}
+use Rattle.facts.specs.Verdict.{passed, stops}
 use Rattle.rules.specs.Calls.{goOn}
 use borrow.Author.Needs.{needs}
 use Rattle.pool_checked.proofs.go_on.Statement.{statement}
@@ -22,7 +24,11 @@ enum-told : tie.Need-enum-told
 enum-told c = search needs
 
 go-on-requires : tie.Need-go-on-requires
-go-on-requires c κs = sound (c .before .before .before .before .before .before .before .before .before .before .before .before .before .before .before .before .before .before .args .s) (tables (c .before .before .before .before .before .before .before .before .before .before .before .before .before .before .before .before .before .before)) (c .before .before .before .before .before .before .before .checked .ensures) (c .before .before .before .before .before .enum-told .given .1)
+go-on-requires c κs =
+    let start : tie.Start = search needs in
+    let check : tie.After-checked = search needs in
+    let told : tie.After-enum-told = search needs in
+    passed (start .args .s) (tables start) (sym (check .checked .ensures) ∙ told .enum-told .given .1)
 
 same-length : tie.Need-same-length
 same-length c = search needs
@@ -41,7 +47,10 @@ same-length-5 c = search needs
 
 returns : tie.Need-returns
 unfolding goOn
-returns c = refused (c .before .before .before .before .before .before .before .before .before .before .before .before .before .before .args .s) (tables (c .before .before .before .before .before .before .before .before .before .before .before .before .before .before)) (c .before .before .before .checked .ensures) _ (c .before .v .given .1)
+returns c =
+    let start : tie.Start = search needs in
+    let check : tie.After-checked = search needs in
+    stops (refused (tables start)) _ (check .checked .ensures) (c .before .v .given .1)
 
 same-length-6 : tie.Need-same-length-6
 same-length-6 c = search needs
@@ -59,7 +68,9 @@ same-length-10 : tie.Need-same-length-10
 same-length-10 c = search needs
 
 returns-2 : tie.Need-returns-2
-returns-2 c = c .before .before .before .before .before .before .before .before .before .before .go-on .ensures
+returns-2 c =
+    let done : tie.After-go-on = search needs in
+    done .go-on .ensures
 
 pub go-on-spec : {M : Type 1} → statement M
 go-on-spec =

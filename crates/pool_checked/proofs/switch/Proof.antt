@@ -2,10 +2,11 @@
 -- Assumes nothing.
 use denote.Ref.{now}
 use Rattle.rules.specs.Tables.{State, state}
-use Rattle.check_tables.specs.Verdict.{sound, refused}
+use mathlib.Core.Path.{_≡_, sym, _∙_}
+use Rattle.rules.specs.Refusals.{refused}
+use Rattle.facts.specs.Verdict.{passed, stops}
 use Rattle.facts.specs.Lines.{Sound}
 use Rattle.rules.specs.Calls.{switch}
-use Rattle.pool_sound.specs.Sound.{switch-ready}
 use borrow.Author.Needs.{needs}
 use Rattle.pool_checked.proofs.switch.Statement.{statement}
 use Rattle.pool_checked.proofs.switch.Tie as tie
@@ -24,16 +25,26 @@ enum-told : tie.Need-enum-told
 enum-told c = search needs
 
 switch-requires : tie.Need-switch-requires
-switch-requires c κs = switch-ready (sound (c .before .before .before .before .before .before .before .before .args .s) (tables (c .before .before .before .before .before .before .before .before)) (c .before .before .checked .ensures) (c .enum-told .given .1))
+switch-requires c κs =
+    let start : tie.Start = search needs in
+    let check : tie.After-checked = search needs in
+    let told : tie.After-enum-told = search needs in
+    (_, _, _, _, passed (start .args .s) (tables start) (sym (check .checked .ensures) ∙ told .enum-told .given .1))
 
 returns : tie.Need-returns
 unfolding switch
-returns c = refused (c .before .before .before .before .before .before .before .before .before .args .s) (tables (c .before .before .before .before .before .before .before .before .before)) (c .before .before .before .checked .ensures) _ (c .before .v .given .1)
+returns c =
+    let start : tie.Start = search needs in
+    let check : tie.After-checked = search needs in
+    stops (refused (tables start)) _ (check .checked .ensures) (c .before .v .given .1)
 
 returns-2 : tie.Need-returns-2
 returns-2 c =
-    c .switch .ensures _ _ _ _
-    (sound (c .before .before .before .before .before .before .before .before .before .args .s) (tables (c .before .before .before .before .before .before .before .before .before)) (c .before .before .before .checked .ensures) (c .before .enum-told .given .1))
+    let start : tie.Start = search needs in
+    let check : tie.After-checked = search needs in
+    let told : tie.After-enum-told = search needs in
+    let done : tie.After-switch = search needs in
+    done .switch .ensures _ _ _ _ (passed (start .args .s) (tables start) (sym (check .checked .ensures) ∙ told .enum-told .given .1))
 
 pub switch-spec : {M : Type 1} → statement M
 switch-spec =

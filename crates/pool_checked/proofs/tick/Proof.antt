@@ -2,9 +2,10 @@
 -- Assumes nothing.
 use denote.Ref.{now}
 use Rattle.rules.specs.Tables.{State, state}
-use Rattle.check_tables.specs.Verdict.{sound, refused}
+use mathlib.Core.Path.{_≡_, sym, _∙_}
+use Rattle.rules.specs.Refusals.{refused}
+use Rattle.facts.specs.Verdict.{passed, stops}
 use Rattle.rules.specs.Calls.{tick}
-use Rattle.pool_sound.specs.Sound.{tick-ready}
 use borrow.Author.Needs.{needs}
 use Rattle.pool_checked.proofs.tick.Statement.{statement}
 use Rattle.pool_checked.proofs.tick.Tie as tie
@@ -23,7 +24,11 @@ enum-told : tie.Need-enum-told
 enum-told c = search needs
 
 tick-requires : tie.Need-tick-requires
-tick-requires c κs = tick-ready (sound (c .before .before .before .before .before .before .before .before .before .before .before .before .args .s) (tables (c .before .before .before .before .before .before .before .before .before .before .before .before)) (c .before .before .before .before .checked .ensures) (c .before .before .enum-told .given .1))
+tick-requires c κs =
+    let start : tie.Start = search needs in
+    let check : tie.After-checked = search needs in
+    let told : tie.After-enum-told = search needs in
+    (_, _, _, passed (start .args .s) (tables start) (sym (check .checked .ensures) ∙ told .enum-told .given .1))
 
 same-length : tie.Need-same-length
 same-length c = search needs
@@ -33,7 +38,10 @@ same-length-2 c = search needs
 
 returns : tie.Need-returns
 unfolding tick
-returns c = refused (c .before .before .before .before .before .before .before .before .before .before .before .args .s) (tables (c .before .before .before .before .before .before .before .before .before .before .before)) (c .before .before .before .checked .ensures) _ (c .before .v .given .1)
+returns c =
+    let start : tie.Start = search needs in
+    let check : tie.After-checked = search needs in
+    stops (refused (tables start)) _ (check .checked .ensures) (c .before .v .given .1)
 
 same-length-3 : tie.Need-same-length-3
 same-length-3 c = search needs
@@ -43,8 +51,11 @@ same-length-4 c = search needs
 
 returns-2 : tie.Need-returns-2
 returns-2 c =
-    c .before .before .before .before .tick .ensures _ _ _
-    (sound (c .before .before .before .before .before .before .before .before .before .before .before .before .before .before .before .before .before .args .s) (tables (c .before .before .before .before .before .before .before .before .before .before .before .before .before .before .before .before .before)) (c .before .before .before .before .before .before .before .before .before .checked .ensures) (c .before .before .before .before .before .before .before .enum-told .given .1))
+    let start : tie.Start = search needs in
+    let check : tie.After-checked = search needs in
+    let told : tie.After-enum-told = search needs in
+    let done : tie.After-tick = search needs in
+    done .tick .ensures _ _ _ (passed (start .args .s) (tables start) (sym (check .checked .ensures) ∙ told .enum-told .given .1))
 
 pub tick-spec : {M : Type 1} → statement M
 tick-spec =

@@ -1,6 +1,5 @@
 -- `script_turn::turn` meets its contract: sound tables give each call what it needs, and the record that was found names the call.
 -- Assumes nothing.
-use Rattle.pool_sound.specs.Sound.{calls-length, give-ready, switch-ready, tick-ready, whole-ready}
 use Rattle.script_turn.proofs.Named.{no-pool, asks, asks-shortly, goes-on, gives, switches, ticks, wholly}
 use borrow.Author.Needs.{needs}
 use Rattle.script_turn.proofs.turn.Statement.{statement}
@@ -13,13 +12,17 @@ enum-known-step : tie.Need-enum-known-step
 enum-known-step c = search needs
 
 ask-requires : tie.Need-ask-requires
-ask-requires c κs = calls-length (c .before .before .before .before .before .before .before .before .before .pre .1)
+ask-requires c κs =
+    let start : tie.Start = search needs in
+    (_, _, _, _, start .pre .1)
 
 enum-known-step-2 : tie.Need-enum-known-step-2
 enum-known-step-2 c = search needs
 
 ask-requires-2 : tie.Need-ask-requires-2
-ask-requires-2 c κs = calls-length (c .before .before .before .before .before .before .before .before .before .pre .1)
+ask-requires-2 c κs =
+    let start : tie.Start = search needs in
+    (_, _, _, _, start .pre .1)
 
 enum-known-step-3 : tie.Need-enum-known-step-3
 enum-known-step-3 c = search needs
@@ -31,25 +34,33 @@ enum-known-step-4 : tie.Need-enum-known-step-4
 enum-known-step-4 c = search needs
 
 give-back-requires : tie.Need-give-back-requires
-give-back-requires c κs = give-ready (c .before .before .before .before .before .before .before .before .before .before .before .pre .1)
+give-back-requires c κs =
+    let start : tie.Start = search needs in
+    (_, _, start .pre .1)
 
 enum-known-step-5 : tie.Need-enum-known-step-5
 enum-known-step-5 c = search needs
 
 switch-requires : tie.Need-switch-requires
-switch-requires c κs = switch-ready (c .before .before .before .before .before .before .before .before .before .pre .1)
+switch-requires c κs =
+    let start : tie.Start = search needs in
+    (_, _, _, _, start .pre .1)
 
 enum-told-2 : tie.Need-enum-told-2
 enum-told-2 c = search needs
 
 tick-requires : tie.Need-tick-requires
-tick-requires c κs = tick-ready (c .before .before .before .before .before .before .before .before .before .pre .1)
+tick-requires c κs =
+    let start : tie.Start = search needs in
+    (_, _, _, start .pre .1)
 
 enum-told-3 : tie.Need-enum-told-3
 enum-told-3 c = search needs
 
 whole-requires : tie.Need-whole-requires
-whole-requires c κs = whole-ready (c .before .before .before .before .before .before .before .before .before .pre .1)
+whole-requires c κs =
+    let start : tie.Start = search needs in
+    (_, _, _, _, start .pre .1)
 
 returns : tie.Need-returns
 returns c = absurd (no-pool _ (c .before .before .before .before .before .before .before .pre .0) (c .enum-told .given .1))

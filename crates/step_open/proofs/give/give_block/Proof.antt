@@ -28,7 +28,7 @@ same-length-3 : tie.Need-same-length-3
 same-length-3 c = search needs
 
 returns : tie.Need-returns
-returns c = 
+returns c =
     λ lists queue d.
     let start : tie.Start = search needs in
     let state : tie.After-put-state = search needs in

@@ -52,7 +52,7 @@ give-block-requires c κs =
     let verdict : tie.After-held-by = search needs in
     let told : tie.After-enum-told = search needs in
     let held = held-passed (start .args .s) (now (start .args .states)) (now (start .args .owners)) (start .args .t) (start .args .id)
-        (sym (verdict .held-by .ensures) ∙ told .enum-told .given .1) in
+    (sym (verdict .held-by .ensures) ∙ told .enum-told .given .1) in
     let level : tie.After-id-level = search needs in
     let inside = id-inside (start .args .s) (start .args .id) (held .inside) in
     record {
