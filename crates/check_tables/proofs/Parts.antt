@@ -11,16 +11,16 @@ use Rattle.rules.specs.Valid.{listEnds, freeListed, callsKept, oneToOne, queueE
 use Rattle.check_tree.specs.Tree.{treeValid}
 
 abbrev pub lists : Shape → State → Bool
-lists s T = listEnds s (T .lists) && freeListed s (T .states) (T .lists)
+lists s T = listEnds s (T .pool .lists) && freeListed s (T .pool .states) (T .pool .lists)
 
 abbrev pub calls : Shape → State → Bool
-calls s T = callsKept s (T .device .clock) (T .calls)
+calls s T = callsKept s (T .threads .device .clock) (T .threads .calls)
 
 abbrev pub hands : Shape → State → Bool
-hands s T = oneToOne ALLOCATING DIVIDING s (T .states) (T .calls) && oneToOne FREEING RELEASING s (T .states) (T .calls)
+hands s T = oneToOne ALLOCATING DIVIDING s (T .pool .states) (T .threads .calls) && oneToOne FREEING RELEASING s (T .pool .states) (T .threads .calls)
 
 abbrev pub queue : Shape → State → Bool
-queue s T = queueEnds s (T .queue) && waitersQueued s (T .calls) (T .queue) && runningReady s (T .calls) (T .device)
+queue s T = queueEnds s (T .threads .queue) && waitersQueued s (T .threads .calls) (T .threads .queue) && runningReady s (T .threads .calls) (T .threads .device)
 
 -- a part that fails, as a call answered it
 refuted : (v p : Bool) {r : Bool} → (v ≡ true → p ≡ true) → r ≡ p → not r ≡ true → false ≡ v
@@ -29,7 +29,7 @@ refuted v p {r} h e n = fails v (λ q. true≢false (sym (h q) ∙ sym e ∙ not
 module _ (s : Shape) (T : State) where
   parts-of :
       valid s T ≡ true →
-      (treeValid s (T .states) (T .owners) ≡ true) × (lists s T ≡ true) × (calls s T ≡ true) × (hands s T ≡ true)
+      (treeValid s (T .pool .states) (T .pool .owners) ≡ true) × (lists s T ≡ true) × (calls s T ≡ true) × (hands s T ≡ true)
   unfolding valid
   parts-of e =
       let f1 = both _ _ e in
@@ -38,8 +38,8 @@ module _ (s : Shape) (T : State) where
       let f4 = both _ _ (f3 .0) in
       (f4 .0, f4 .1, f3 .1, f2 .1)
 
-  pub tree-fails : {r : Bool} → r ≡ treeValid s (T .states) (T .owners) → not r ≡ true → false ≡ valid s T
-  tree-fails = refuted (valid s T) (treeValid s (T .states) (T .owners)) (λ q. parts-of q .0)
+  pub tree-fails : {r : Bool} → r ≡ treeValid s (T .pool .states) (T .pool .owners) → not r ≡ true → false ≡ valid s T
+  tree-fails = refuted (valid s T) (treeValid s (T .pool .states) (T .pool .owners)) (λ q. parts-of q .0)
 
   pub lists-fail : {r : Bool} → r ≡ lists s T → not r ≡ true → false ≡ valid s T
   lists-fail = refuted (valid s T) (lists s T) (λ q. parts-of q .1)
@@ -51,7 +51,7 @@ module _ (s : Shape) (T : State) where
   hands-fail = refuted (valid s T) (hands s T) (λ q. parts-of q .3)
 
   pub last-part :
-      {a b c d r : Bool} → a ≡ treeValid s (T .states) (T .owners) → not a ≡ false → b ≡ lists s T → not b ≡ false →
+      {a b c d r : Bool} → a ≡ treeValid s (T .pool .states) (T .pool .owners) → not a ≡ false → b ≡ lists s T → not b ≡ false →
       c ≡ calls s T → not c ≡ false → d ≡ hands s T → not d ≡ false → r ≡ queue s T → r ≡ valid s T
   unfolding valid
   last-part {a} {b} {c} {d} ea na eb nb ec nc ed nd e =

@@ -27,11 +27,11 @@ use Rattle.facts.specs.Lists.{length-freeList}
 
 -- the lengths of the tables
 pub record LengthFacts (s : Shape) (T : State) : Type 0 where
-  pub states : length (T .states) ≡ blocks s
-  pub owners : length (T .owners) ≡ blocks s
-  pub lists : length (T .lists) ≡ s .levels + blocks s
-  pub calls : length (T .calls) ≡ CELLS * s .threads
-  pub queue : length (T .queue) ≡ s .threads + 1
+  pub states : length (T .pool .states) ≡ blocks s
+  pub owners : length (T .pool .owners) ≡ blocks s
+  pub lists : length (T .pool .lists) ≡ s .levels + blocks s
+  pub calls : length (T .threads .calls) ≡ CELLS * s .threads
+  pub queue : length (T .threads .queue) ≡ s .threads + 1
 
 pub length-facts : (s : Shape) (T : State) → lengths s T ≡ true → LengthFacts s T
 unfolding lengths
@@ -104,20 +104,20 @@ found-inside s c k e h =
       levelFor-inside s (c .size) k,
     )
 
--- the block in hand is in the state that corresponds to the call's stage
+-- the block in hand is in the state that corresponds to the test that the call passes
 pub hand-state :
-    (st stage : ℕ) (s : Shape) (states calls : List ℕ) → oneToOne st stage s states calls ≡ true → (t : ℕ) →
-    t < s .threads → callOf calls t .stage ≡ stage → callOf calls t .level < s .levels →
+    (st : ℕ) (test : Call → Bool) (s : Shape) (states calls : List ℕ) → oneToOne st test s states calls ≡ true → (t : ℕ) →
+    t < s .threads → test (callOf calls t) ≡ true → callOf calls t .level < s .levels →
     callOf calls t .block < count s (callOf calls t .level) →
     stateAt s states (callOf calls t .level) (callOf calls t .block) ≡ st
 unfolding oneToOne
-hand-state st stage s states calls e t h g l b =
+hand-state st test s states calls e t h g l b =
     eqb-true _ _
     (once (eqb (stateAt s states (callOf calls t .level) (callOf calls t .block)) st)
     (eqb-true _ _
     (every-at (count s (callOf calls t .level)) _ (every-at (s .levels) _ e (callOf calls t .level) l) (callOf calls t .block) b))
     (tally-some (s .threads) t
-    (λ u. inHand stage (callOf calls t .level) (callOf calls t .block) (callOf calls u))
+    (λ u. inHand test (callOf calls t .level) (callOf calls t .block) (callOf calls u))
     h
     (mine (callOf calls t) g)))
   where
@@ -125,8 +125,8 @@ hand-state st stage s states calls e t h g l b =
     once true q k = refl
     once false q k = absurd (omega arith)
 
-    mine : (c : Call) → c .stage ≡ stage → inHand stage (c .level) (c .block) c ≡ true
-    mine c q = simp (eq-eqb _ _ q, eq-eqb (c .level) (c .level) refl, eq-eqb (c .block) (c .block) refl)
+    mine : (c : Call) → test c ≡ true → inHand test (c .level) (c .block) c ≡ true
+    mine c q = simp (q, eq-eqb (c .level) (c .level) refl, eq-eqb (c .block) (c .block) refl)
 
 -- the parts of a block that is not DIVIDED do not exist
 pub parts-none :
@@ -153,22 +153,22 @@ list-short s lists e l h = leb-true _ _ (both _ _ (every-at (s .levels) _ e l h)
 -- room in a level's list for m blocks that are not FREE
 pub list-room :
     (s : Shape) (T : State) → ValidFacts s T → LengthFacts s T → (l a m : ℕ) → l < s .levels → a + m ≤ count s l →
-    ((j : ℕ) → j < m → stateAt s (T .states) l (a + j) ≡ FREE → ⊥) → getD (T .lists) l 0 + m ≤ count s l
+    ((j : ℕ) → j < m → stateAt s (T .pool .states) l (a + j) ≡ FREE → ⊥) → getD (T .pool .lists) l 0 + m ≤ count s l
 unfolding freeListed
 list-room s T v n l a m h k g =
     omega (
       arith,
-      sym (length-freeList s (T .lists) l (n .lists) h (list-short s (T .lists) (v .listEnds) l h)),
-      members-counted (count s l) (λ b. eqb (stateAt s (T .states) l b) FREE) (freeList s (T .lists) l) (here .0)
+      sym (length-freeList s (T .pool .lists) l (n .lists) h (list-short s (T .pool .lists) (v .pool .listEnds) l h)),
+      members-counted (count s l) (λ b. eqb (stateAt s (T .pool .states) l b) FREE) (freeList s (T .pool .lists) l) (here .0)
           (λ b q. eqb-true _ _ (every-at (count s l) _ (here .1) b q)),
-      tally-room (count s l) a m (λ b. eqb (stateAt s (T .states) l b) FREE) k (λ j q. ne-eqb _ _ (g j q)),
+      tally-room (count s l) a m (λ b. eqb (stateAt s (T .pool .states) l b) FREE) k (λ j q. ne-eqb _ _ (g j q)),
     )
   where
     here :
-        (every (length (freeList s (T .lists) l)) (λ i. ltb (getD (freeList s (T .lists) l) i 0) (count s l)) ≡ true)
-        × (every (count s l) (λ b. eqb (times b (freeList s (T .lists) l)) (bit (eqb (stateAt s (T .states) l b) FREE)))
+        (every (length (freeList s (T .pool .lists) l)) (λ i. ltb (getD (freeList s (T .pool .lists) l) i 0) (count s l)) ≡ true)
+        × (every (count s l) (λ b. eqb (times b (freeList s (T .pool .lists) l)) (bit (eqb (stateAt s (T .pool .states) l b) FREE)))
         ≡ true)
-    here = both _ _ (every-at (s .levels) _ (v .freeListed) l h)
+    here = both _ _ (every-at (s .levels) _ (v .pool .freeListed) l h)
 
 -- the members of a level's list are blocks of the level
 pub member-inside :
@@ -190,24 +190,24 @@ length-queueOf s queue h e =
 -- room in the queue for a thread that is not in it
 pub queue-room :
     (s : Shape) (T : State) → ValidFacts s T → LengthFacts s T → (t : ℕ) → t < s .threads →
-    (callOf (T .calls) t .stage ≡ WAITING → ⊥) → getD (T .queue) 0 0 + 1 ≤ s .threads
+    (callOf (T .threads .calls) t .stage ≡ WAITING → ⊥) → getD (T .threads .queue) 0 0 + 1 ≤ s .threads
 unfolding waitersQueued
 queue-room s T v n t h g =
     omega (
       arith,
-      sym (length-queueOf s (T .queue) (n .queue) (v .queueEnds) .0),
-      members-counted (s .threads) (λ u. eqb (callOf (T .calls) u .stage) WAITING) (queueOf (T .queue)) (here .0)
+      sym (length-queueOf s (T .threads .queue) (n .queue) (v .threads .queueEnds) .0),
+      members-counted (s .threads) (λ u. eqb (callOf (T .threads .calls) u .stage) WAITING) (queueOf (T .threads .queue)) (here .0)
           (λ u q. eqb-true _ _ (every-at (s .threads) _ (here .1) u q)),
-      tally-room (s .threads) t 1 (λ u. eqb (callOf (T .calls) u .stage) WAITING) (omega arith) only,
+      tally-room (s .threads) t 1 (λ u. eqb (callOf (T .threads .calls) u .stage) WAITING) (omega arith) only,
     )
   where
     here :
-        (every (length (queueOf (T .queue))) (λ i. ltb (getD (queueOf (T .queue)) i 0) (s .threads)) ≡ true)
-        × (every (s .threads) (λ u. eqb (times u (queueOf (T .queue))) (bit (eqb (callOf (T .calls) u .stage) WAITING)))
+        (every (length (queueOf (T .threads .queue))) (λ i. ltb (getD (queueOf (T .threads .queue)) i 0) (s .threads)) ≡ true)
+        × (every (s .threads) (λ u. eqb (times u (queueOf (T .threads .queue))) (bit (eqb (callOf (T .threads .calls) u .stage) WAITING)))
         ≡ true)
-    here = both _ _ (v .waitersQueued)
+    here = both _ _ (v .threads .waitersQueued)
 
-    only : (j : ℕ) → j < 1 → eqb (callOf (T .calls) (t + j) .stage) WAITING ≡ false
+    only : (j : ℕ) → j < 1 → eqb (callOf (T .threads .calls) (t + j) .stage) WAITING ≡ false
     only j q = rw (zero-only j q) (ne-eqb _ _ g)
       where
         zero-only : (j : ℕ) → j < 1 → t + j ≡ t

@@ -1,4 +1,5 @@
 pub mod Lines
+pub mod Verdict
 pub mod Lists
 pub mod Given
 pub mod Call

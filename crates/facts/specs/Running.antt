@@ -1,7 +1,7 @@
 -- A thread runs on sound tables: what they say of its call, and its go on, which is past the refusals and is the step of the call's stage.
 -- Assumes nothing.
 use mathlib.Core.Path.{_≡_, sym, _∙_, ap}
-use mathlib.Core.Bool.{true, _||_}
+use mathlib.Core.Bool.{true, _||_, Bool}
 use Prim.Native.Nat.{ℕ, _+_, _≤_, _<_}
 use native.Mathlib.Omega.{arith}
 use lib.Dec.{eqb}
@@ -11,8 +11,9 @@ use Rattle.shape.specs.Blocks.{count, levelFor}
 use Rattle.rules.specs.declared.Call.{Call}
 use Rattle.rules.specs.Numbers.{FREEING, ALLOCATING, CLOSED, DIVIDING, RELEASING, WAITING}
 use Rattle.rules.specs.Tables.{State, lengths, stateAt, callOf}
-use Rattle.rules.specs.Valid.{usesBlock, oneToOne, valid}
+use Rattle.rules.specs.Valid.{usesBlock, oneToOne, valid, releasing, dividing}
 use Rattle.facts.specs.Lines.{Sound, ValidFacts, valid-facts}
+use Rattle.facts.specs.Verdict.{passes, running-passes}
 use Rattle.facts.specs.Given.{CallFacts, call-facts, hand-inside, hand-state}
 use Rattle.rules.specs.Steps.{splitStep, grantStep, divideStep, releaseStep, goOnStep}
 use Rattle.rules.specs.Calls.{goOn}
@@ -22,8 +23,8 @@ use Rattle.facts.specs.Stage.{running-ready}
 pub record Running (s : Shape) (T : State) (t : ℕ) (c : Call) : Type 0 where
   pub sound : Sound s T
   pub thread : t < s .threads
-  pub running : T .device .running ≡ t + 1
-  pub own : callOf (T .calls) t ≡ c
+  pub running : T .threads .device .running ≡ t + 1
+  pub own : callOf (T .threads .calls) t ≡ c
 
 -- a stage tells whether it uses a block
 pub uses-block : (c : Call) (n : ℕ) → c .stage ≡ n → usesBlock c ≡ (eqb n DIVIDING || eqb n RELEASING)
@@ -33,41 +34,38 @@ module _ {s : Shape} {T : State} {t : ℕ} {c : Call} (g : Running s T t c) wher
   lines : ValidFacts s T
   lines = valid-facts s T (g .sound .valid)
 
-  pub own-facts : CallFacts s (T .device .clock) c
-  own-facts = rw (g .own) at (call-facts s (T .device .clock) (T .calls) (lines .callsKept) t (g .thread))
+  pub own-facts : CallFacts s (T .threads .device .clock) c
+  own-facts = rw (g .own) at (call-facts s (T .threads .device .clock) (T .threads .calls) (lines .threads .callsKept) t (g .thread))
 
   -- it isn't blocked
   pub ready : c .stage ≡ WAITING → ⊥
-  ready q = running-ready s (T .calls) (T .device) (lines .runningReady) t (g .running) (rw (g .own) q)
+  ready q = running-ready s (T .threads .calls) (T .threads .device) (lines .threads .runningReady) t (g .running) (rw (g .own) q)
 
   -- its block in hand, where it has one, and the state of that
   pub hand-placed : usesBlock c ≡ true → (c .level < s .levels) × (c .block < count s (c .level))
   hand-placed u = hand-inside s c (own-facts .hand) u
 
   hand-is :
-      (st stage : ℕ) → oneToOne st stage s (T .states) (T .calls) ≡ true → usesBlock c ≡ true → c .stage ≡ stage →
-      stateAt s (T .states) (c .level) (c .block) ≡ st
-  hand-is st stage k u e =
+      (st : ℕ) (test : Call → Bool) → oneToOne st test s (T .pool .states) (T .threads .calls) ≡ true → usesBlock c ≡ true → test c ≡ true →
+      stateAt s (T .pool .states) (c .level) (c .block) ≡ st
+  hand-is st test k u e =
       rw (g .own) at
-      (hand-state st stage s (T .states) (T .calls) k t (g .thread) (rw (g .own) e) (rw (g .own) (hand-placed u .0))
+      (hand-state st test s (T .pool .states) (T .threads .calls) k t (g .thread) (rw (g .own) e) (rw (g .own) (hand-placed u .0))
       (rw (g .own) (hand-placed u .1)))
 
-  pub allocating : c .stage ≡ DIVIDING → stateAt s (T .states) (c .level) (c .block) ≡ ALLOCATING
-  allocating e = hand-is ALLOCATING DIVIDING (lines .allocating) (uses-block c DIVIDING e) e
+  pub allocating : c .stage ≡ DIVIDING → stateAt s (T .pool .states) (c .level) (c .block) ≡ ALLOCATING
+  allocating e = hand-is ALLOCATING dividing (lines .hands .allocating) (uses-block c DIVIDING e) (eq-eqb _ _ e)
 
-  pub freeing : c .stage ≡ RELEASING → stateAt s (T .states) (c .level) (c .block) ≡ FREEING
-  freeing e = hand-is FREEING RELEASING (lines .freeing) (uses-block c RELEASING e) e
+  pub freeing : c .stage ≡ RELEASING → stateAt s (T .pool .states) (c .level) (c .block) ≡ FREEING
+  freeing e = hand-is FREEING releasing (lines .hands .freeing) (uses-block c RELEASING e) (eq-eqb _ _ e)
 
   -- the thread with a call open goes on
   pub goes : (c .stage ≡ CLOSED → ⊥) → goOn s T t ≡ goOnStep s T t c
   unfolding goOn
   goes n =
       rw (
-        g .sound .shape,
-        g .sound .lengths,
-        g .sound .valid,
-        lt-ltb t (s .threads) (g .thread),
-        eq-eqb _ _ (g .running),
+        passes (g .sound),
+        running-passes s (T .threads .device) t (g .thread) (g .running),
         g .own,
         ne-eqb (c .stage) CLOSED n,
       )

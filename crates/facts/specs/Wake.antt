@@ -93,6 +93,12 @@ pub wake-next :
     set (wake calls (take i (queueOf queue))) (CELLS * getD queue (i + 1) 0) ASKED ≡ wake calls (take (i + 1) (queueOf queue))
 wake-next calls queue i fits h = rw (queueOf-next queue i fits h, wake-more)
 
+-- what waking all leaves: every waiting thread is awake, the queue is empty, and their number is answered
+pub record AllAwake (calls queue callsAfter queueAfter : List ℕ) (woken : ℕ) : Type 0 where
+  pub awake : callsAfter ≡ wake calls (queueOf queue)
+  pub queued : queueAfter ≡ putQueue (length queue - 1) []
+  pub number : woken ≡ length (queueOf queue)
+
 -- what a tick leaves: those due are awake and have left the queue, the rest keeping their order, and their number is answered
 pub record DueAwake (calls queue : List ℕ) (clock : ℕ) (callsAfter queueAfter : List ℕ) (woken : ℕ) : Type 0 where
   pub awake : callsAfter ≡ wake calls (keep (due calls clock) (queueOf queue))

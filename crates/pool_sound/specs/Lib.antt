@@ -1,2 +1,1 @@
-pub mod Thread
 pub mod Sound

@@ -1,76 +1,49 @@
--- What each call needs of the tables that it is lent, and that sound tables give it.
+-- What is required of the tables that a call is lent: that there are others with which they are sound; and what that gives to its step.
 -- Assumes nothing.
 use mathlib.Core.Path.{_≡_}
-use mathlib.Core.Bool.{true}
 use mathlib.Core.List.{List}
-use Prim.Native.Nat.{ℕ, _*_}
-use lib.ListN.{length}
+use Prim.Native.Nat.{ℕ}
 use Rattle.shape.specs.declared.Shape.{Shape}
-use Rattle.shape.specs.Limits.{allowed}
-use Rattle.shape.specs.Blocks.{blocks}
-use Rattle.rules.specs.Numbers.{CELLS}
-use Rattle.rules.specs.Tables.{State}
-use Rattle.facts.specs.Given.{LengthFacts, length-facts}
+use Rattle.rules.specs.declared.Device.{Device}
+use Rattle.rules.specs.Tables.{State, state}
 use Rattle.facts.specs.Lines.{Sound, ValidFacts, valid-facts}
+use Rattle.facts.specs.Given.{LengthFacts, length-facts}
 use Rattle.facts.specs.Queue.{QueueReady, queueReady}
 use Rattle.facts.specs.Wake.{MembersInside, membersInside}
 
--- what give back needs
-pub record GiveReady (s : Shape) (states owners calls : List ℕ) : Type 0 where
-  pub shape : allowed s ≡ true
-  pub whole : length states ≡ blocks s
-  pub owned : length owners ≡ blocks s
-  pub threads : length calls ≡ CELLS * s .threads
+-- the calls alone: ask and switch
+abbrev pub CallsSound : Shape → List ℕ → Device → Type 0
+CallsSound s calls d =
+    (states : List ℕ) × (owners : List ℕ) × (lists : List ℕ) × (queue : List ℕ)
+    × Sound s (state states owners lists calls queue d)
 
--- what switch needs
-pub record SwitchReady (s : Shape) (calls : List ℕ) : Type 0 where
-  pub shape : allowed s ≡ true
-  pub threads : length calls ≡ CELLS * s .threads
+-- all but the lists and the queue: give back
+abbrev pub OwnedSound : Shape → List ℕ → List ℕ → List ℕ → Device → Type 0
+OwnedSound s states owners calls d =
+    (lists : List ℕ) × (queue : List ℕ) × Sound s (state states owners lists calls queue d)
 
--- what tick needs
-pub record TickReady (calls queue : List ℕ) : Type 0 where
-  pub ready : QueueReady queue
-  pub members : MembersInside calls queue
+-- the threads' tables: tick
+abbrev pub ThreadsSound : Shape → List ℕ → List ℕ → Device → Type 0
+ThreadsSound s calls queue d =
+    (states : List ℕ) × (owners : List ℕ) × (lists : List ℕ) × Sound s (state states owners lists calls queue d)
 
--- what whole needs
-pub record WholeReady (s : Shape) (states calls : List ℕ) : Type 0 where
-  pub shape : allowed s ≡ true
-  pub whole : length states ≡ blocks s
-  pub threads : length calls ≡ CELLS * s .threads
+-- the states and the calls: whole
+abbrev pub StatesSound : Shape → List ℕ → List ℕ → Type 0
+StatesSound s states calls =
+    (owners : List ℕ) × (lists : List ℕ) × (queue : List ℕ) × (d : Device) × Sound s (state states owners lists calls queue d)
 
 module _ {s : Shape} {T : State} (g : Sound s T) where
   pub right-lengths : LengthFacts s T
   right-lengths = length-facts s T (g .lengths)
 
-  pub valid-lines : ValidFacts s T
-  valid-lines = valid-facts s T (g .valid)
+  lines : ValidFacts s T
+  lines = valid-facts s T (g .valid)
 
-  -- what ask needs
-  pub calls-length : length (T .calls) ≡ CELLS * s .threads
-  calls-length = right-lengths .calls
+  pub queue-ready : QueueReady (T .threads .queue)
+  queue-ready = queueReady s (T .threads .queue) (lines .threads .queueEnds) (right-lengths .queue)
 
-  pub give-ready : GiveReady s (T .states) (T .owners) (T .calls)
-  give-ready =
-      record {
-        shape = g .shape;
-        whole = right-lengths .states;
-        owned = right-lengths .owners;
-        threads = right-lengths .calls;
-      }
-
-  pub switch-ready : SwitchReady s (T .calls)
-  switch-ready = record { shape = g .shape; threads = right-lengths .calls }
-
-  pub queue-ready : QueueReady (T .queue)
-  queue-ready = queueReady s (T .queue) (valid-lines .queueEnds) (right-lengths .queue)
-
-  pub members-inside : MembersInside (T .calls) (T .queue)
+  pub members-inside : MembersInside (T .threads .calls) (T .threads .queue)
   members-inside =
-      membersInside s (T .calls) (T .queue) (valid-lines .queueEnds) (valid-lines .waitersQueued) (right-lengths .queue)
+      membersInside s (T .threads .calls) (T .threads .queue) (lines .threads .queueEnds) (lines .threads .waitersQueued)
+      (right-lengths .queue)
       (right-lengths .calls)
-
-  pub tick-ready : TickReady (T .calls) (T .queue)
-  tick-ready = record { ready = queue-ready; members = members-inside }
-
-  pub whole-ready : WholeReady s (T .states) (T .calls)
-  whole-ready = record { shape = g .shape; whole = right-lengths .states; threads = right-lengths .calls }

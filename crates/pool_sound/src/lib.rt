@@ -8,20 +8,18 @@ use shape::Shape;
 use shape::time::Millis;
 ghost use mathlib.Core.Path.{_≡_};
 ghost use mathlib.Core.List.{List};
-ghost use Prim.Native.Nat.{ℕ, _*_};
-ghost use lib.ListN.{length};
-ghost use Rattle.rules.specs.Numbers.{CELLS};
+ghost use Prim.Native.Nat.{ℕ};
 ghost use Rattle.rules.specs.Tables.{state};
 ghost use Rattle.facts.specs.Lines.{Sound};
 ghost use Rattle.rules.specs.Steps.{outcome};
 ghost use Rattle.rules.specs.Calls.{ask, goOn, give, switch, tick};
 ghost use Rattle.rules.specs.Questions.{whole};
-ghost use Rattle.pool_sound.specs.Thread.{threadVerdict};
-ghost use Rattle.pool_sound.specs.Sound.{GiveReady, SwitchReady, TickReady, WholeReady};
+ghost use Rattle.rules.specs.Refusals.{running};
+ghost use Rattle.pool_sound.specs.Sound.{CallsSound, OwnedSound, ThreadsSound, StatesSound};
 
 // The first of the refusals 4 and 5 that applies to a thread's call, if one does.
 fn may_step(d: Device, s: Shape, t: usize) -> Verdict
-    ensures { λ r. ⌜ r ≡ threadVerdict s d t ⌝ }
+    ensures { λ r. ⌜ r ≡ running s d t ⌝ }
 {
     let running = d.running as usize;
     if s.threads <= t {
@@ -35,7 +33,7 @@ fn may_step(d: Device, s: Shape, t: usize) -> Verdict
 
 // Ask: thread t asks for a block of at least this size, and says how long it would wait.
 pub fn ask(d: Device, s: Shape, calls: &mut [u64], t: usize, size: usize, wait: Millis) -> Answer
-    requires { ⌜ length (now calls) ≡ CELLS * s .threads ⌝ }
+    requires { ⌜ CallsSound s (now calls) d ⌝ }
     ensures { λ r. ⌜ ((states owners lists queue : List ℕ) → Sound s (state states owners lists (now (calls .entry)) queue d) → outcome r (state states owners lists (now (calls .exit)) queue d) ≡ ask s (state states owners lists (now (calls .entry)) queue d) t size wait) ⌝ }
 {
     let v = may_step(d, s, t);
@@ -88,7 +86,7 @@ pub fn give_back(
     t: usize,
     id: usize,
 ) -> Answer
-    requires { ⌜ GiveReady s (now states) (now owners) (now calls) ⌝ }
+    requires { ⌜ OwnedSound s (now states) (now owners) (now calls) d ⌝ }
     ensures { λ r. ⌜ ((lists queue : List ℕ) → Sound s (state (now (states .entry)) (now (owners .entry)) lists (now (calls .entry)) queue d) → outcome r (state (now (states .exit)) (now (owners .exit)) lists (now (calls .exit)) queue d) ≡ give s (state (now (states .entry)) (now (owners .entry)) lists (now (calls .entry)) queue d) t id) ⌝ }
 {
     let v = may_step(d, s, t);
@@ -100,23 +98,23 @@ pub fn give_back(
 
 // Switch: thread t runs.
 pub fn switch(d: Device, s: Shape, calls: &[u64], t: usize) -> Ran
-    requires { ⌜ SwitchReady s (now calls) ⌝ }
+    requires { ⌜ CallsSound s (now calls) d ⌝ }
     ensures { λ r. ⌜ ((states owners lists queue : List ℕ) → Sound s (state states owners lists (now (calls .entry)) queue d) → outcome (r .answer) (state states owners lists (now (calls .entry)) queue (r .device)) ≡ switch s (state states owners lists (now (calls .entry)) queue d) t) ⌝ }
 {
-    step_open::switch::switch_step(d, s, calls, t)
+    step_device::switch::switch_step(d, s, calls, t)
 }
 
 // Tick: the clock rises, and who waited until now is ready.
 pub fn tick(d: Device, s: Shape, calls: &mut [u64], queue: &mut [u8]) -> Ran
-    requires { ⌜ TickReady (now calls) (now queue) ⌝ }
+    requires { ⌜ ThreadsSound s (now calls) (now queue) d ⌝ }
     ensures { λ r. ⌜ ((states owners lists : List ℕ) → Sound s (state states owners lists (now (calls .entry)) (now (queue .entry)) d) → outcome (r .answer) (state states owners lists (now (calls .exit)) (now (queue .exit)) (r .device)) ≡ tick s (state states owners lists (now (calls .entry)) (now (queue .entry)) d)) ⌝ }
 {
-    step_open::tick::tick_step(d, calls, queue)
+    step_device::tick::tick_step(d, calls, queue)
 }
 
 // Whole: whether every byte has come home and no call is open.
 pub fn whole(s: Shape, states: &[u8], calls: &[u64]) -> Answer
-    requires { ⌜ WholeReady s (now states) (now calls) ⌝ }
+    requires { ⌜ StatesSound s (now states) (now calls) ⌝ }
     ensures { λ r. ⌜ ((owners lists queue : List ℕ) (device : Device) → Sound s (state (now (states .entry)) owners lists (now (calls .entry)) queue device) → r ≡ whole s (state (now (states .entry)) owners lists (now (calls .entry)) queue device)) ⌝ }
 {
     if questions::whole::is_whole(s, states, calls) {

@@ -19,6 +19,7 @@ use Rattle.shape.specs.Offsets.{over-inside}
 use Rattle.rules.specs.Numbers.{DIVIDED, NOEXIST}
 use Rattle.rules.specs.Tables.{State, lengths, stateAt}
 use Rattle.rules.specs.Valid.{valid}
+use Rattle.facts.specs.Verdict.{passes}
 use Rattle.facts.specs.Lines.{valid-facts}
 use Rattle.rules.specs.Questions.{undivided, coverLevel, blockOver, cover}
 use Rattle.proved_bytes.specs.Tree.{Undivided, Over, covered, covered-once}
@@ -60,21 +61,21 @@ finds s states x l (suc k) h q c =
 module _ (s : Shape) (T : State) (h : allowed s ≡ true) (v : valid s T ≡ true) where
   -- the level that is found from the deepest upward
   pub cover-one :
-      (x : ℕ) → x < bytes s → CoverOne s (T .states) x (coverLevel s (T .states) x (s .levels - 1))
+      (x : ℕ) → x < bytes s → CoverOne s (T .pool .states) x (coverLevel s (T .pool .states) x (s .levels - 1))
   cover-one x k = go (covered (treeOf s T (valid-facts s T v)) (sizesOf s l) x (l .levels .0) (rw (size-top s) k))
     where
       l : Limits s
       l = limits s h
 
-      same : (m : ℕ) → m < s .levels → stateIn s (T .states) m (x / size s m) ≡ stateAt s (T .states) m (x / size s m)
-      same m q = state-inside s (T .states) m (x / size s m) (over-inside s m x l q k)
+      same : (m : ℕ) → m < s .levels → stateIn s (T .pool .states) m (x / size s m) ≡ stateAt s (T .pool .states) m (x / size s m)
+      same m q = state-inside s (T .pool .states) m (x / size s m) (over-inside s m x l q k)
 
       go :
-          Over (s .levels) (size s) (stateIn s (T .states)) x →
-          CoverOne s (T .states) x (coverLevel s (T .states) x (s .levels - 1))
-      go (m, q, u) = rw (finds s (T .states) x m (s .levels - 1) (omega arith) (omega arith) one) one
+          Over (s .levels) (size s) (stateIn s (T .pool .states)) x →
+          CoverOne s (T .pool .states) x (coverLevel s (T .pool .states) x (s .levels - 1))
+      go (m, q, u) = rw (finds s (T .pool .states) x m (s .levels - 1) (omega arith) (omega arith) one) one
         where
-          one : CoverOne s (T .states) x m
+          one : CoverOne s (T .pool .states) x m
           one =
               record {
                 inside = q;
@@ -88,10 +89,10 @@ module _ (s : Shape) (T : State) (h : allowed s ≡ true) (v : valid s T ≡ tru
   -- cover answers that block, with its state
   pub cover-block :
       lengths s T ≡ true → (x : ℕ) → x < bytes s →
-      (l : ℕ) × CoverOne s (T .states) x l × (cover s T x ≡ blockOver s (T .states) x l)
+      (l : ℕ) × CoverOne s (T .pool .states) x l × (cover s T x ≡ blockOver s (T .pool .states) x l)
   unfolding cover
   cover-block n x k = (
-    coverLevel s (T .states) x (s .levels - 1),
+    coverLevel s (T .pool .states) x (s .levels - 1),
     cover-one x k,
-    rw (h, n, v, lt-ltb x (bytes s) k),
+    rw (passes (record { shape = h; lengths = n; valid = v }), lt-ltb x (bytes s) k),
   )

@@ -82,35 +82,35 @@ module _ (s : Shape) (T : State) (n : lengths s T ≡ true) (v : valid s T ≡ t
   -- a level's list has as many members as the level has FREE blocks
   pub listed :
       (l : ℕ) → l < s .levels →
-      getD (T .lists) l 0 ≡ tally (count s l) (λ b. eqb (stateAt s (T .states) l b) FREE)
+      getD (T .pool .lists) l 0 ≡ tally (count s l) (λ b. eqb (stateAt s (T .pool .states) l b) FREE)
   unfolding freeListed
   listed l h =
-      sym (length-freeList s (T .lists) l (length-facts s T n .lists) h (list-short s (T .lists) (facts .listEnds) l h))
-      ∙ members-counted (count s l) (λ b. eqb (stateAt s (T .states) l b) FREE) (freeList s (T .lists) l) (here .0)
+      sym (length-freeList s (T .pool .lists) l (length-facts s T n .lists) h (list-short s (T .pool .lists) (facts .pool .listEnds) l h))
+      ∙ members-counted (count s l) (λ b. eqb (stateAt s (T .pool .states) l b) FREE) (freeList s (T .pool .lists) l) (here .0)
       (λ b q. eqb-true _ _ (every-at (count s l) _ (here .1) b q))
     where
       facts : ValidFacts s T
       facts = valid-facts s T v
 
       here :
-          (every (length (freeList s (T .lists) l)) (λ i. ltb (getD (freeList s (T .lists) l) i 0) (count s l)) ≡ true)
-          × (every (count s l) (λ b. eqb (times b (freeList s (T .lists) l)) (bit (eqb (stateAt s (T .states) l b) FREE)))
+          (every (length (freeList s (T .pool .lists) l)) (λ i. ltb (getD (freeList s (T .pool .lists) l) i 0) (count s l)) ≡ true)
+          × (every (count s l) (λ b. eqb (times b (freeList s (T .pool .lists) l)) (bit (eqb (stateAt s (T .pool .states) l b) FREE)))
           ≡ true)
-      here = both _ _ (every-at (s .levels) _ (facts .freeListed) l h)
+      here = both _ _ (every-at (s .levels) _ (facts .pool .freeListed) l h)
 
   -- a look at level k finds a level exactly where that level or one above it has a FREE block
   pub found-room :
-      (k : ℕ) → k < s .levels → ((l : ℕ) × (deepest (T .lists) k ≡ At l)) ↔ FreeBlock s (T .states) k
-  found-room k h = (λ (l, e). block l (deepest-some (T .lists) k l e), λ (l, b, w, i, e). list l b w i e)
+      (k : ℕ) → k < s .levels → ((l : ℕ) × (deepest (T .pool .lists) k ≡ At l)) ↔ FreeBlock s (T .pool .states) k
+  found-room k h = (λ (l, e). block l (deepest-some (T .pool .lists) k l e), λ (l, b, w, i, e). list l b w i e)
     where
-      block : (l : ℕ) → (l ≤ k) × (0 < getD (T .lists) l 0) → FreeBlock s (T .states) k
+      block : (l : ℕ) → (l ≤ k) × (0 < getD (T .pool .lists) l 0) → FreeBlock s (T .pool .states) k
       block l (w, q) =
-          let (b, i, e) = tally-any (count s l) (λ b. eqb (stateAt s (T .states) l b) FREE) (rw (← listed l (omega arith)) q) in
+          let (b, i, e) = tally-any (count s l) (λ b. eqb (stateAt s (T .pool .states) l b) FREE) (rw (← listed l (omega arith)) q) in
           (l, b, w, i, eqb-true _ _ e)
 
       list :
-          (l b : ℕ) → l ≤ k → b < count s l → stateAt s (T .states) l b ≡ FREE → (m : ℕ) × (deepest (T .lists) k ≡ At m)
+          (l b : ℕ) → l ≤ k → b < count s l → stateAt s (T .pool .states) l b ≡ FREE → (m : ℕ) × (deepest (T .pool .lists) k ≡ At m)
       list l b w i e =
-          some-deepest (T .lists) k l w
+          some-deepest (T .pool .lists) k l w
           (rw (listed l (omega arith))
-          (tally-some (count s l) b (λ b. eqb (stateAt s (T .states) l b) FREE) i (eq-eqb _ _ e)))
+          (tally-some (count s l) b (λ b. eqb (stateAt s (T .pool .states) l b) FREE) i (eq-eqb _ _ e)))

@@ -46,9 +46,9 @@ levelFor-smaller s less request n h k =
 -- where each byte that is free in T is free in U, there is room in U for each size for which there is room in T, and for each smaller one
 pub room-smaller :
     (s : Shape) (T U : State) → allowed s ≡ true → valid s T ≡ true → valid s U ≡ true →
-    ((y : ℕ) → y < bytes s → FreeByte s (T .states) y → FreeByte s (U .states) y) →
+    ((y : ℕ) → y < bytes s → FreeByte s (T .pool .states) y → FreeByte s (U .pool .states) y) →
     (less request : ℕ) → less ≤ request → request ≤ s .«top_size» →
-    FreeBlock s (T .states) (levelFor s request) → FreeBlock s (U .states) (levelFor s less)
+    FreeBlock s (T .pool .states) (levelFor s request) → FreeBlock s (U .pool .states) (levelFor s less)
 room-smaller s T U h v w f less request k q =
     room-more s T U h v w f (levelFor s request) (levelFor s less)
     (levelFor-smaller s less request (limits s h .levels .0) k q)

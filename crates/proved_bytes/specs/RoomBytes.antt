@@ -31,12 +31,12 @@ module _ (s : Shape) (T : State) (h : allowed s ≡ true) (v : valid s T ≡ tru
   -- an aligned run is free exactly where a FREE block of its level or of one above lies over it
   pub run-bytes :
       (k b : ℕ) → k < s .levels → b < count s k →
-      FreeRun s (T .states) k b ↔ ((l : ℕ) × (l ≤ k) × (stateAt s (T .states) l (offset s k b / size s l) ≡ FREE))
+      FreeRun s (T .pool .states) k b ↔ ((l : ℕ) × (l ≤ k) × (stateAt s (T .pool .states) l (offset s k b / size s l) ≡ FREE))
   run-bytes k b q i =
-      Iff·trans (run-tree s (T .states) (limits s h) k b q i)
+      Iff·trans (run-tree s (T .pool .states) (limits s h) k b q i)
       (Iff·trans (free-block (treeOf s T (valid-facts s T v)) (sizesOf s (limits s h)) k b q) (
-        λ (l, w, e). (l, w, state-known s (T .states) l _ (omega arith) e .1),
-        λ (l, w, e). (l, w, state-inside s (T .states) l _ (over l w) ∙ e),
+        λ (l, w, e). (l, w, state-known s (T .pool .states) l _ (omega arith) e .1),
+        λ (l, w, e). (l, w, state-inside s (T .pool .states) l _ (over l w) ∙ e),
       ))
     where
       over : (l : ℕ) → l ≤ k → offset s k b / size s l < count s l
@@ -45,29 +45,29 @@ module _ (s : Shape) (T : State) (h : allowed s ≡ true) (v : valid s T ≡ tru
   -- a level or one above it has a FREE block exactly where an aligned run of its length is free
   pub room-bytes :
       (k : ℕ) → k < s .levels →
-      FreeBlock s (T .states) k ↔ ((b : ℕ) × (b < count s k) × FreeRun s (T .states) k b)
+      FreeBlock s (T .pool .states) k ↔ ((b : ℕ) × (b < count s k) × FreeRun s (T .pool .states) k b)
   room-bytes k q =
-      Iff·trans (room-tree s (T .states) (limits s h) k q)
+      Iff·trans (room-tree s (T .pool .states) (limits s h) k q)
       (Iff·trans (rw (size-top s) at (room (treeOf s T (valid-facts s T v)) (sizesOf s (limits s h)) k q)) (
-        λ (b, w, r). let i = starts s k b (limits s h) q .1 w in (b, i, run-tree s (T .states) (limits s h) k b q i .1 r),
-        λ (b, i, r). (b, starts s k b (limits s h) q .0 i, run-tree s (T .states) (limits s h) k b q i .0 r),
+        λ (b, w, r). let i = starts s k b (limits s h) q .1 w in (b, i, run-tree s (T .pool .states) (limits s h) k b q i .1 r),
+        λ (b, i, r). (b, starts s k b (limits s h) q .0 i, run-tree s (T .pool .states) (limits s h) k b q i .0 r),
       ))
 
 -- where each byte that is free in T is free in U, a level that has room in T has room in U, and so has each deeper one
 pub room-more :
     (s : Shape) (T U : State) → allowed s ≡ true → valid s T ≡ true → valid s U ≡ true →
-    ((y : ℕ) → y < bytes s → FreeByte s (T .states) y → FreeByte s (U .states) y) → (k m : ℕ) → k ≤ m → m < s .levels →
-    FreeBlock s (T .states) k → FreeBlock s (U .states) m
+    ((y : ℕ) → y < bytes s → FreeByte s (T .pool .states) y → FreeByte s (U .pool .states) y) → (k m : ℕ) → k ≤ m → m < s .levels →
+    FreeBlock s (T .pool .states) k → FreeBlock s (U .pool .states) m
 room-more s T U h v w f k m q i r =
-    room-tree s (U .states) l m i .1
+    room-tree s (U .pool .states) l m i .1
     (room-freer (treeOf s T (valid-facts s T v)) (treeOf s U (valid-facts s U w)) (sizesOf s l) freer k m q i
-    (room-tree s (T .states) l k (omega arith) .0 r))
+    (room-tree s (T .pool .states) l k (omega arith) .0 r))
   where
     l : Limits s
     l = limits s h
 
     freer :
-        (y : ℕ) → Free (s .levels) (size s) (stateIn s (T .states)) y → Free (s .levels) (size s) (stateIn s (U .states)) y
+        (y : ℕ) → Free (s .levels) (size s) (stateIn s (T .pool .states)) y → Free (s .levels) (size s) (stateIn s (U .pool .states)) y
     freer y e =
         let n = rw (size-top s) at (free-inside (treeOf s T (valid-facts s T v)) (sizesOf s l) y e) in
-        tree-free s (U .states) l y n (f y n (free-tree s (T .states) l y e))
+        tree-free s (U .pool .states) l y n (f y n (free-tree s (T .pool .states) l y e))

@@ -148,11 +148,11 @@ module _ (s : Shape) (states : List ℕ) where
       deepest = omega arith
 
 -- valid tables are trees
-pub treeOf : (s : Shape) (T : State) → ValidFacts s T → Tree (parts s) (s .levels) (s .tops) (stateIn s (T .states))
+pub treeOf : (s : Shape) (T : State) → ValidFacts s T → Tree (parts s) (s .levels) (s .tops) (stateIn s (T .pool .states))
 treeOf s T v =
     record {
-      top = topsOf s (T .states) (v .topsExist);
-      kids = kidsOf s (T .states) (v .partsExist);
-      deep = deepOf s (T .states) (v .deepestWhole);
-      buddies = buddiesOf s (T .states) (v .buddiesMerged);
+      top = topsOf s (T .pool .states) (v .pool .topsExist);
+      kids = kidsOf s (T .pool .states) (v .pool .partsExist);
+      deep = deepOf s (T .pool .states) (v .pool .deepestWhole);
+      buddies = buddiesOf s (T .pool .states) (v .pool .buddiesMerged);
     }

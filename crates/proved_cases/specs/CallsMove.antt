@@ -27,7 +27,7 @@ use Rattle.proved_cases.specs.StepsMove.{split-moves, merge-moves}
 
 -- the blocks of one state of the tables, and of another, are a move apart at most
 abbrev pub Moved : State → State → Type 0
-Moved T U = Moves (T .states) (U .states)
+Moved T U = Moves (T .pool .states) (U .pool .states)
 
 -- save that build begins anew
 abbrev StepMoves : State → Step → Outcome → Type 0
@@ -42,12 +42,12 @@ module _ (s : Shape) (T : State) (t : ℕ) (c : Call) (g : Running s T t c) wher
 
   -- found: the first block listed was FREE
   take-moves :
-      (b : ℕ) (bs : List ℕ) → c .stage ≡ FOUND → freeList s (T .lists) (c .level) ≡ b ∷ bs →
+      (b : ℕ) (bs : List ℕ) → c .stage ≡ FOUND → freeList s (T .pool .lists) (c .level) ≡ b ∷ bs →
       Moved T (takeFrom s T t c (b ∷ bs) .after)
   unfolding takeFrom
   take-moves b bs f e =
-      moves-one (T .states) (place s (c .level) b) FREE ALLOCATING
-      (listed-free s (T .states) (T .lists) (lines .freeListed) (c .level) b bs
+      moves-one (T .pool .states) (place s (c .level) b) FREE ALLOCATING
+      (listed-free s (T .pool .states) (T .pool .lists) (lines .pool .freeListed) (c .level) b bs
       (found-inside s c (shape .levels .0) (own-facts g .found) f)
       e)
       refl
@@ -56,16 +56,16 @@ module _ (s : Shape) (T : State) (t : ℕ) (c : Call) (g : Running s T t c) wher
   divide-moves : c .stage ≡ DIVIDING → c .level < levelFor s (c .size) → Moved T (splitStep s T t c .after)
   unfolding splitStep
   divide-moves d h =
-      split-moves s (T .states) (c .level) (c .block) (shape .tops .0) (allocating g d)
+      split-moves s (T .pool .states) (c .level) (c .block) (shape .tops .0) (allocating g d)
       (λ j k.
-      parts-none s (T .states) (lines .partsExist) (c .level) (c .block) j
+      parts-none s (T .pool .states) (lines .pool .partsExist) (c .level) (c .block) j
       (omega (arith, levelFor-inside s (c .size) (shape .levels .0)))
       (hand-placed g (uses-block c DIVIDING d) .1)
       k
       (λ q. omega (arith, allocating g d, q)))
 
   -- releasing: the block in hand was FREEING, and where it merges its buddies were FREE and its parent DIVIDED
-  joins-moves : c .stage ≡ RELEASING → merges s (T .states) (c .level) (c .block) ≡ true → Moved T (mergeStep s T t c .after)
+  joins-moves : c .stage ≡ RELEASING → merges s (T .pool .states) (c .level) (c .block) ≡ true → Moved T (mergeStep s T t c .after)
   unfolding mergeStep merges
   joins-moves r e =
       merged (ltb-true 0 (c .level) (both (ltb 0 (c .level)) _ e .0)) (both (ltb 0 (c .level)) _ e .1)
@@ -74,13 +74,13 @@ module _ (s : Shape) (T : State) (t : ℕ) (c : Call) (g : Running s T t c) wher
           0 < c .level →
           every (parts s) (λ j.
           eqb (firstBuddy s (c .block) + j) (c .block)
-          || eqb (stateAt s (T .states) (c .level) (firstBuddy s (c .block) + j)) FREE)
+          || eqb (stateAt s (T .pool .states) (c .level) (firstBuddy s (c .block) + j)) FREE)
           ≡ true →
           Moved T (mergeStep s T t c .after)
       merged d f =
           let w = hand-placed g (uses-block c RELEASING r) in
-          let m = merging s (T .states) (lines .partsExist) (c .level - 1) (c .level) (c .block) (omega arith) (w .0) (w .1) (freeing g r) f in
-          merge-moves s (T .states) (c .level - 1) (c .level) (c .block / parts s) (omega arith) (shape .tops .0) (m .0) (m .1)
+          let m = merging s (T .pool .states) (lines .pool .partsExist) (c .level - 1) (c .level) (c .block) (omega arith) (w .0) (w .1) (freeing g r) f in
+          merge-moves s (T .pool .states) (c .level - 1) (c .level) (c .block / parts s) (omega arith) (shape .tops .0) (m .0) (m .1)
 
   go-on-moves : EachGoOn (StepMoves T (GoOn t)) s T t c
   unfolding takeFrom splitStep grantStep mergeStep settleStep
@@ -92,8 +92,8 @@ module _ (s : Shape) (T : State) (t : ℕ) (c : Call) (g : Running s T t c) wher
         again = λ f _. moves-none _;
         takes = λ b bs f q _. take-moves b bs f q;
         splits = λ d h _. divide-moves d h;
-        grants = λ d h _. moves-one (T .states) (place s (c .level) (c .block)) ALLOCATING ALLOCATED (allocating g d) refl;
-        settles = λ r e _. moves-one (T .states) (place s (c .level) (c .block)) FREEING FREE (freeing g r) refl;
+        grants = λ d h _. moves-one (T .pool .states) (place s (c .level) (c .block)) ALLOCATING ALLOCATED (allocating g d) refl;
+        settles = λ r e _. moves-one (T .pool .states) (place s (c .level) (c .block)) FREEING FREE (freeing g r) refl;
         merges = λ r e _. joins-moves r e;
       }
 
@@ -102,11 +102,11 @@ pub steps-move : (s : Shape) (T : State) (x : Step) → (x ≡ Build → ⊥) �
 steps-move s T =
     each-step (StepMoves T) s T
     (record {
-      stays = λ x r e _. moves-none _;
+      stays = λ x r e u _. moves-none _;
       builds = λ a n. absurd (n refl);
       asks = λ t size ms g o h _. moves-none _;
       goes = λ t g. go-on-moves s T t _ g;
-      gives = λ t i g o p a w _. moves-one (T .states) (place s (idLevel i) (idBlock i)) ALLOCATED FREEING a refl;
+      gives = λ t i g o p a w _. moves-one (T .pool .states) (place s (idLevel i) (idBlock i)) ALLOCATED FREEING a refl;
       switches = λ t h w _. moves-none _;
       ticks = λ n v _. moves-none _;
       whole = λ _. moves-none _;

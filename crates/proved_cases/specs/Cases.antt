@@ -72,14 +72,14 @@ cases =
     ∷ row (numberAfter (of64 2) (Switch 0 ∷ []) (Ask 0 16 (pos 600001)) ∷ []) (10 ∷ [])
     ∷ row (numberAfter (of64 2) (Switch 0 ∷ []) (Ask 0 16 (negsuc 1)) ∷ []) (10 ∷ [])
     -- P8 one top block, sizes 1,024 and 256; quarters 0, 1, 2 granted, 0 then 1 given back: list 3, 0, 1
-    ∷ row (freeList (of1024 2) (after (of1024 2) quarters .lists) 1) (3 ∷ 0 ∷ 1 ∷ [])
+    ∷ row (freeList (of1024 2) (after (of1024 2) quarters .pool .lists) 1) (3 ∷ 0 ∷ 1 ∷ [])
     -- with 768 bytes free, 257 finds no room
     ∷ row (freeAfter (of1024 2) quarters 1 ∷ numberAfter (of1024 2) (quarters ++ asking 257 0) (GoOn 0) ∷ []) (768 ∷ 14 ∷ [])
     -- P9 256 gets quarter 3: granted, with its id
     ∷ row (numberAfter (of1024 2) (quarters ++ asking 256 2) (GoOn 0) ∷ []) (45 ∷ [])
     ∷ row (detailAfter (of1024 2) (quarters ++ asking 256 2) (GoOn 0) ∷ []) (id (of1024 2) 1 3 ∷ [])
     -- P10 deadline 9, clock 9, no room → 15
-    ∷ row (callOf (after (of64 2) full .calls) 1 .deadline ∷ after (of64 2) full .device .clock ∷ []) (9 ∷ 9 ∷ [])
+    ∷ row (callOf (after (of64 2) full .threads .calls) 1 .deadline ∷ after (of64 2) full .threads .device .clock ∷ []) (9 ∷ 9 ∷ [])
     ∷ row (freeAfter (of64 2) full 0 ∷ numberAfter (of64 2) full (GoOn 1) ∷ []) (0 ∷ 15 ∷ [])
     -- at clock 10 → 15 even with room; at clock 9 room is found
     ∷ row (freeAfter (of64 2) (waited 10) 0 ∷ numberAfter (of64 2) (waited 10) (GoOn 1) ∷ []) (64 ∷ 15 ∷ [])

@@ -12,15 +12,16 @@ use Rattle.shape.specs.Blocks.{size, count, levelFrom, levelFor, above, blocks}
 use Rattle.shape.specs.Time.{longest, ticks, wait}
 use Rattle.rules.specs.Answers.{number, detail}
 use Rattle.rules.specs.Tables.{State, lengths, freeList, putList, queueOf, putQueue, callOf, putCall, fresh}
-use Rattle.rules.specs.Valid.{statesKnown, listEnds, queueEnds, fieldsUsed, topsExist, partsExist, deepestWhole, buddiesMerged, freeListed, ownersKnown, handInside, oneToOne, targetKept, waitersQueued, runningReady, sizeKept, foundKept, deadlineKept, mayWait, callKept, callsKept, valid}
+use Rattle.rules.specs.Valid.{statesKnown, listEnds, queueEnds, fieldsUsed, topsExist, partsExist, deepestWhole, buddiesMerged, freeListed, ownersKnown, handInside, oneToOne, targetKept, waitersQueued, runningReady, sizeKept, foundKept, deadlineKept, mayWait, callKept, callsKept, poolValid, threadsValid, handsValid, valid}
 use Rattle.rules.specs.Steps.{deepest, noRoom, lookAt, look, takeFrom, takeStep, splitStep, grantStep, divideStep, merges, mergeStep, wake, settleStep, releaseStep, goOnStep}
-use Rattle.rules.specs.Calls.{build, askedCall, askStep, ask, goOn, idOutside, giveBlock, giveStep, give, switchStep, switch, due, tickStep, tick}
+use Rattle.rules.specs.Calls.{build, askedCall, askStep, ask, goOn, giveStep, give, switchStep, switch, due, tickStep, tick}
+use Rattle.rules.specs.Refusals.{fitting, verdict, running, idOutside, heldBy}
 use Rattle.rules.specs.Questions.{isWhole, whole}
 use Rattle.history.specs.History.{Step, stepOn, runSteps}
 
 -- where this unfolds every rule does, so that what stands beside it computes
 unfoldable pub everyRule : Bool
-unfolding every tally pad times keep upFrom parts unit allowed size count levelFrom levelFor above blocks longest ticks wait lengths freeList putList queueOf putQueue callOf putCall fresh statesKnown listEnds queueEnds fieldsUsed topsExist partsExist deepestWhole buddiesMerged freeListed ownersKnown handInside oneToOne targetKept waitersQueued runningReady sizeKept foundKept deadlineKept mayWait callKept callsKept valid deepest noRoom lookAt look takeFrom takeStep splitStep grantStep divideStep merges mergeStep wake settleStep releaseStep goOnStep build askedCall askStep ask goOn idOutside giveBlock giveStep give switchStep switch due tickStep tick isWhole whole stepOn runSteps
+unfolding every tally pad times keep upFrom parts unit allowed size count levelFrom levelFor above blocks longest ticks wait lengths freeList putList queueOf putQueue callOf putCall fresh statesKnown listEnds queueEnds fieldsUsed topsExist partsExist deepestWhole buddiesMerged freeListed ownersKnown handInside oneToOne targetKept waitersQueued runningReady sizeKept foundKept deadlineKept mayWait callKept callsKept poolValid threadsValid handsValid valid deepest noRoom lookAt look takeFrom takeStep splitStep grantStep divideStep merges mergeStep wake settleStep releaseStep goOnStep build askedCall fitting verdict running askStep ask goOn idOutside heldBy giveStep give switchStep switch due tickStep tick isWhole whole stepOn runSteps
 everyRule = true
 
 -- fresh tables after a history
@@ -40,4 +41,4 @@ detailAfter s steps x = detail (stepOn s (after s steps) x .answer)
 
 -- the bytes of the FREE blocks that level l lists after a history
 abbrev pub freeAfter : Shape → List Step → ℕ → ℕ
-freeAfter s steps l = length (freeList s (after s steps .lists) l) * size s l
+freeAfter s steps l = length (freeList s (after s steps .pool .lists) l) * size s l

@@ -52,10 +52,10 @@ rows =
 
 -- the state at a place before a step that follows a history on fresh tables, and after it
 abbrev pub stateBefore : List Step → ℕ → ℕ
-stateBefore history k = getD (after scriptShape history .states) k 0
+stateBefore history k = getD (after scriptShape history .pool .states) k 0
 
 abbrev pub stateAfter : List Step → Step → ℕ → ℕ
-stateAfter history x k = getD (stepOn scriptShape (after scriptShape history) x .after .states) k 0
+stateAfter history x k = getD (stepOn scriptShape (after scriptShape history) x .after .pool .states) k 0
 
 -- a step that makes this move
 pub record Made (from to : ℕ) : Type 0 where

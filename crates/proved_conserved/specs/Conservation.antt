@@ -69,23 +69,23 @@ module _ (s : Shape) (states : List ℕ) (k : statesKnown s states ≡ true) whe
       )
 
 -- bytes by state sum to the pool's bytes
-pub conserved : (s : Shape) (T : State) → allowed s ≡ true → valid s T ≡ true → bytesOfAll s (T .states) ≡ bytes s
+pub conserved : (s : Shape) (T : State) → allowed s ≡ true → valid s T ≡ true → bytesOfAll s (T .pool .states) ≡ bytes s
 unfolding bytesOf
 conserved s T a v =
-    follow-states s (T .states) (valid-facts s T v .statesKnown) 0 (bytes s) (mapPairs s (T .states)) (map-follows s T a v)
+    follow-states s (T .pool .states) (valid-facts s T v .pool .statesKnown) 0 (bytes s) (mapPairs s (T .pool .states)) (map-follows s T a v)
     ∙ map-bytes s T a v
 
 -- so they do after a step
-pub step-conserves : (s : Shape) (T : State) (x : Step) → Sound s T → bytesOfAll s (stepOn s T x .after .states) ≡ bytes s
+pub step-conserves : (s : Shape) (T : State) (x : Step) → Sound s T → bytesOfAll s (stepOn s T x .after .pool .states) ≡ bytes s
 step-conserves s T x k = conserved s (stepOn s T x .after) (k .shape) (steps-valid s T x k .valid)
 
 -- and after every step of a history that begins with valid tables
 pub run-conserves :
-    (s : Shape) (T : State) (xs : List Step) (n : ℕ) → Sound s T → bytesOfAll s (runSteps s T (take n xs) .states) ≡ bytes s
+    (s : Shape) (T : State) (xs : List Step) (n : ℕ) → Sound s T → bytesOfAll s (runSteps s T (take n xs) .pool .states) ≡ bytes s
 run-conserves s T xs n k = conserved s (runSteps s T (take n xs)) (k .shape) (runs-valid s (take n xs) T k .valid)
 
 -- as one that begins with fresh tables does
 pub history-conserves :
     (s : Shape) (xs : List Step) (n : ℕ) → allowed s ≡ true →
-    bytesOfAll s (runSteps s (fresh s) (take n xs) .states) ≡ bytes s
+    bytesOfAll s (runSteps s (fresh s) (take n xs) .pool .states) ≡ bytes s
 history-conserves s xs n a = conserved s (runSteps s (fresh s) (take n xs)) a (histories-valid s xs n a .valid)

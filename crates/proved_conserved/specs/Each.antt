@@ -66,8 +66,8 @@ follow-over s states a c x (p ∷ ps) (w, e, f) h k =
 
 module _ (s : Shape) (T : State) (a : allowed s ≡ true) (v : valid s T ≡ true) where
   -- an undivided existing block of the shape is listed
-  pub map-all : (l b : ℕ) → Standing s (T .states) l b → Listed (mapPairs s (T .states)) l b
-  map-all l b w = go (follow-over s (T .states) 0 (bytes s) (offset s l b) _ (map-follows s T a v) (omega arith) inside)
+  pub map-all : (l b : ℕ) → Standing s (T .pool .states) l b → Listed (mapPairs s (T .pool .states)) l b
+  map-all l b w = go (follow-over s (T .pool .states) 0 (bytes s) (offset s l b) _ (map-follows s T a v) (omega arith) inside)
     where
       some : 1 ≤ size s l
       some = size-some s l (limits s a) (w .level)
@@ -81,19 +81,19 @@ module _ (s : Shape) (T : State) (a : allowed s ≡ true) (v : valid s T ≡ tru
             mul-le-mul-right {m = b + 1} {n = count s l} (size s l) (omega (arith, w .block)),
           )
 
-      one : CoverOne s (T .states) (offset s l b) (coverLevel s (T .states) (offset s l b) (s .levels - 1))
+      one : CoverOne s (T .pool .states) (offset s l b) (coverLevel s (T .pool .states) (offset s l b) (s .levels - 1))
       one = cover-one s T a v (offset s l b) inside
 
       here : offset s l b / size s l ≡ b
       here = lies-in s l b (offset s l b) some .1 (omega arith, omega (arith, some))
 
       go :
-          (m : ℕ) × (c : ℕ) × Listed (mapPairs s (T .states)) m c × (offset s m c ≤ offset s l b)
+          (m : ℕ) × (c : ℕ) × Listed (mapPairs s (T .pool .states)) m c × (offset s m c ≤ offset s l b)
           × (offset s l b < offset s m (c + 1)) →
-          Listed (mapPairs s (T .states)) l b
+          Listed (mapPairs s (T .pool .states)) l b
       go (m, c, i, f, t) = rw (level, block) at i
         where
-          stands : Standing s (T .states) m c
+          stands : Standing s (T .pool .states) m c
           stands = map-standing s T a v m c (i .before) (i .behind) (i .among)
 
           over : offset s l b / size s m ≡ c
@@ -109,7 +109,7 @@ module _ (s : Shape) (T : State) (a : allowed s ≡ true) (v : valid s T ≡ tru
 
   -- and not again behind itself
   pub map-once :
-      (l b : ℕ) (before behind : List (ℕ × ℕ)) → Among (mapPairs s (T .states)) before l b behind → Listed behind l b → ⊥
+      (l b : ℕ) (before behind : List (ℕ × ℕ)) → Among (mapPairs s (T .pool .states)) before l b behind → Listed behind l b → ⊥
   map-once l b before behind e i =
       omega (
         arith,
@@ -120,7 +120,7 @@ module _ (s : Shape) (T : State) (a : allowed s ≡ true) (v : valid s T ≡ tru
         sizes-first s l b (i .before),
       )
     where
-      again : Among (mapPairs s (T .states)) (before ++ ((l, b) ∷ i .before)) l b (i .behind)
+      again : Among (mapPairs s (T .pool .states)) (before ++ ((l, b) ∷ i .before)) l b (i .behind)
       again =
           e
           ∙ ap (λ (r : List (ℕ × ℕ)). before ++ ((l, b) ∷ r)) (i .among)

@@ -79,7 +79,7 @@ module _ (s : Shape) (states : List ℕ) where
           rw e at (h (suc j) (omega arith))
 
 module _ (s : Shape) (T : State) (a : allowed s ≡ true) (v : valid s T ≡ true) where
-  tree : Tree (parts s) (s .levels) (s .tops) (stateIn s (T .states))
+  tree : Tree (parts s) (s .levels) (s .tops) (stateIn s (T .pool .states))
   tree = treeOf s T (valid-facts s T v)
 
   together : Sizes (parts s) (s .levels) (size s)
@@ -87,32 +87,32 @@ module _ (s : Shape) (T : State) (a : allowed s ≡ true) (v : valid s T ≡ tru
 
   -- a block that exists is listed as undivided blocks from its first byte to its last
   follow-block :
-      (depth l b : ℕ) → suc (l + depth) ≡ s .levels → b < count s l → stateAt s (T .states) l b ≢ NOEXIST →
-      Follow s (T .states) (offset s l b) (blockPairs s (T .states) depth l b) (offset s l (b + 1))
+      (depth l b : ℕ) → suc (l + depth) ≡ s .levels → b < count s l → stateAt s (T .pool .states) l b ≢ NOEXIST →
+      Follow s (T .pool .states) (offset s l b) (blockPairs s (T .pool .states) depth l b) (offset s l (b + 1))
   unfolding blockPairs
-  follow-block zero l b h k e = follow-one s (T .states) l b (record { level = omega arith; block = k; whole = whole })
+  follow-block zero l b h k e = follow-one s (T .pool .states) l b (record { level = omega arith; block = k; whole = whole })
     where
-      deep : stateAt s (T .states) l b ≢ DIVIDED
-      deep = rw (state-inside s (T .states) l b k) at (tree .deep l b (omega arith))
+      deep : stateAt s (T .pool .states) l b ≢ DIVIDED
+      deep = rw (state-inside s (T .pool .states) l b k) at (tree .deep l b (omega arith))
 
-      whole : undivided (stateAt s (T .states) l b) ≡ true
+      whole : undivided (stateAt s (T .pool .states) l b) ≡ true
       whole = rw (ne-eqb _ _ deep, ne-eqb _ _ e)
   follow-block (suc depth) l b h k e =
-      pick (eqb (stateAt s (T .states) l b) DIVIDED) refl (λ c. follow-block depth (l + 1) c (omega arith))
+      pick (eqb (stateAt s (T .pool .states) l b) DIVIDED) refl (λ c. follow-block depth (l + 1) c (omega arith))
     where
       pick :
-          (d : Bool) → eqb (stateAt s (T .states) l b) DIVIDED ≡ d →
-          ((c : ℕ) → c < count s (l + 1) → stateAt s (T .states) (l + 1) c ≢ NOEXIST →
-          Follow s (T .states) (offset s (l + 1) c) (blockPairs s (T .states) depth (l + 1) c) (offset s (l + 1) (c + 1))) →
-          Follow s (T .states) (offset s l b)
-          (cond d (pairsFrom (blockPairs s (T .states) depth (l + 1)) (parts s * b) (parts s)) ((l, b) ∷ []))
+          (d : Bool) → eqb (stateAt s (T .pool .states) l b) DIVIDED ≡ d →
+          ((c : ℕ) → c < count s (l + 1) → stateAt s (T .pool .states) (l + 1) c ≢ NOEXIST →
+          Follow s (T .pool .states) (offset s (l + 1) c) (blockPairs s (T .pool .states) depth (l + 1) c) (offset s (l + 1) (c + 1))) →
+          Follow s (T .pool .states) (offset s l b)
+          (cond d (pairsFrom (blockPairs s (T .pool .states) depth (l + 1)) (parts s * b) (parts s)) ((l, b) ∷ []))
           (offset s l (b + 1))
       pick false q down =
-          follow-one s (T .states) l b
+          follow-one s (T .pool .states) l b
           (record { level = omega arith; block = k; whole = rw (q, ne-eqb _ _ e) })
       pick true q down =
           rw (starts, ends) at
-          (follow-from s (T .states) (size s (l + 1)) (blockPairs s (T .states) depth (l + 1)) (parts s * b) (parts s) (λ j i.
+          (follow-from s (T .pool .states) (size s (l + 1)) (blockPairs s (T .pool .states) depth (l + 1)) (parts s * b) (parts s) (λ j i.
           down (parts s * b + j) (part-inside s l b j k i) (there j i)))
         where
           longer : size s l ≡ size s (l + 1) * parts s
@@ -124,18 +124,18 @@ module _ (s : Shape) (T : State) (a : allowed s ≡ true) (v : valid s T ≡ tru
           ends : (parts s * b + parts s) * size s (l + 1) ≡ offset s l (b + 1)
           ends = rw longer (omega arith)
 
-          there : (j : ℕ) → j < parts s → stateAt s (T .states) (l + 1) (parts s * b + j) ≢ NOEXIST
+          there : (j : ℕ) → j < parts s → stateAt s (T .pool .states) (l + 1) (parts s * b + j) ≢ NOEXIST
           there j i =
-              rw (← add-one l, state-inside s (T .states) (l + 1) (parts s * b + j) (part-inside s l b j k i)) at
+              rw (← add-one l, state-inside s (T .pool .states) (l + 1) (parts s * b + j) (part-inside s l b j k i)) at
               (tree .kids l (parts s * b + j) (omega arith) .1
-              (rw (part-of (parts s) b j i, state-inside s (T .states) l b k) (eqb-true _ _ q)))
+              (rw (part-of (parts s) b j i, state-inside s (T .pool .states) l b k) (eqb-true _ _ q)))
 
   -- all that map lists, from the pool's first byte to its last
-  pub map-follows : Follow s (T .states) 0 (mapPairs s (T .states)) (bytes s)
+  pub map-follows : Follow s (T .pool .states) 0 (mapPairs s (T .pool .states)) (bytes s)
   unfolding mapPairs
   map-follows =
       rw (size-top s, first, all) at
-      (follow-from s (T .states) (size s 0) (blockPairs s (T .states) (s .levels - 1) 0) 0 (s .tops) (λ j i.
+      (follow-from s (T .pool .states) (size s 0) (blockPairs s (T .pool .states) (s .levels - 1) 0) 0 (s .tops) (λ j i.
       follow-block (s .levels - 1) 0 (0 + j) deepest (inside j i) (there j i)))
     where
       first : 0 * s .«top_size» ≡ 0
@@ -150,8 +150,8 @@ module _ (s : Shape) (T : State) (a : allowed s ≡ true) (v : valid s T ≡ tru
       inside : (j : ℕ) → j < s .tops → 0 + j < count s 0
       inside j i = omega (arith, count-top s)
 
-      there : (j : ℕ) → j < s .tops → stateAt s (T .states) 0 (0 + j) ≢ NOEXIST
-      there j i = rw (state-inside s (T .states) 0 (0 + j) (inside j i)) at (tree .top (0 + j) .0 (omega arith))
+      there : (j : ℕ) → j < s .tops → stateAt s (T .pool .states) 0 (0 + j) ≢ NOEXIST
+      there j i = rw (state-inside s (T .pool .states) 0 (0 + j) (inside j i)) at (tree .top (0 + j) .0 (omega arith))
 
 -- a block stands among others, these before it and those behind it
 abbrev pub Among : List (ℕ × ℕ) → List (ℕ × ℕ) → ℕ → ℕ → List (ℕ × ℕ) → Type 0
@@ -175,18 +175,18 @@ module _ (s : Shape) (states : List ℕ) where
 module _ (s : Shape) (T : State) (a : allowed s ≡ true) (v : valid s T ≡ true) where
   -- each block that map lists is an undivided existing block of the shape
   pub map-standing :
-      (l b : ℕ) (before behind : List (ℕ × ℕ)) → Among (mapPairs s (T .states)) before l b behind →
-      Standing s (T .states) l b
+      (l b : ℕ) (before behind : List (ℕ × ℕ)) → Among (mapPairs s (T .pool .states)) before l b behind →
+      Standing s (T .pool .states) l b
   map-standing l b before behind e =
-      follow-at s (T .states) 0 (bytes s) l b before behind (rw e at (map-follows s T a v)) .0
+      follow-at s (T .pool .states) 0 (bytes s) l b before behind (rw e at (map-follows s T a v)) .0
 
   -- and begins where those before it end
   pub map-begins :
-      (l b : ℕ) (before behind : List (ℕ × ℕ)) → Among (mapPairs s (T .states)) before l b behind →
+      (l b : ℕ) (before behind : List (ℕ × ℕ)) → Among (mapPairs s (T .pool .states)) before l b behind →
       sizes s before ≡ offset s l b
   map-begins l b before behind e =
-      omega (arith, follow-at s (T .states) 0 (bytes s) l b before behind (rw e at (map-follows s T a v)) .1)
+      omega (arith, follow-at s (T .pool .states) 0 (bytes s) l b before behind (rw e at (map-follows s T a v)) .1)
 
   -- together they have the pool's bytes
-  pub map-bytes : sizes s (mapPairs s (T .states)) ≡ bytes s
-  map-bytes = omega (arith, follow-ends s (T .states) 0 (bytes s) (mapPairs s (T .states)) (map-follows s T a v))
+  pub map-bytes : sizes s (mapPairs s (T .pool .states)) ≡ bytes s
+  map-bytes = omega (arith, follow-ends s (T .pool .states) 0 (bytes s) (mapPairs s (T .pool .states)) (map-follows s T a v))

@@ -19,15 +19,15 @@ device clock running = record { clock = clock; running = running }
 
 -- a go on that blocks its thread: nobody runs
 abbrev Blocks : State → Step → Outcome → Type 0
-Blocks T x o = (t : ℕ) × (x ≡ GoOn t) × (o .answer ≡ Waiting) × (o .after .device ≡ device (T .device .clock) 0)
+Blocks T x o = (t : ℕ) × (x ≡ GoOn t) × (o .answer ≡ Waiting) × (o .after .threads .device ≡ device (T .threads .device .clock) 0)
 
 -- what a step leaves of the record
 abbrev Record : State → Step → Outcome → Type 0
 Record T x o =
-    (o .after .device ≡ T .device)
+    (o .after .threads .device ≡ T .threads .device)
     ⊎ (x ≡ Build)
-    ⊎ ((x ≡ Tick) × (o .after .device ≡ device (T .device .clock + 1) (T .device .running)))
-    ⊎ ((t : ℕ) × (x ≡ Switch t) × (o .after .device ≡ device (T .device .clock) (t + 1)))
+    ⊎ ((x ≡ Tick) × (o .after .threads .device ≡ device (T .threads .device .clock + 1) (T .threads .device .running)))
+    ⊎ ((t : ℕ) × (x ≡ Switch t) × (o .after .threads .device ≡ device (T .threads .device .clock) (t + 1)))
     ⊎ Blocks T x o
 
 go-on-record : (s : Shape) (T : State) (t : ℕ) (c : Call) → EachGoOn (Record T (GoOn t)) s T t c
@@ -49,7 +49,7 @@ steps-record : (s : Shape) (T : State) (x : Step) → Record T x (stepOn s T x)
 steps-record s T =
     each-step (Record T) s T
     (record {
-      stays = λ x r e. inl refl;
+      stays = λ x r e u. inl refl;
       builds = λ a. inr (inl refl);
       asks = λ t size ms g o h. inl refl;
       goes = λ t g. go-on-record s T t _;
@@ -63,10 +63,10 @@ steps-record s T =
 -- only a tick and build change the clock
 pub clock-stays :
     (s : Shape) (T : State) (x : Step) → (x ≡ Tick → ⊥) → (x ≡ Build → ⊥) →
-    stepOn s T x .after .device .clock ≡ T .device .clock
+    stepOn s T x .after .threads .device .clock ≡ T .threads .device .clock
 clock-stays s T x n m = go (steps-record s T x)
   where
-    go : Record T x (stepOn s T x) → stepOn s T x .after .device .clock ≡ T .device .clock
+    go : Record T x (stepOn s T x) → stepOn s T x .after .threads .device .clock ≡ T .threads .device .clock
     go (inl e) = ap (λ (d : Device). d .clock) e
     go (inr (inl b)) = absurd (m b)
     go (inr (inr (inl (k, e)))) = absurd (n k)
@@ -76,14 +76,14 @@ clock-stays s T x n m = go (steps-record s T x)
 -- only a switch, build and a go on that blocks its thread change who runs
 pub running-stays :
     (s : Shape) (T : State) (x : Step) → ((t : ℕ) → x ≡ Switch t → ⊥) → (x ≡ Build → ⊥) →
-    (stepOn s T x .after .device .running ≡ T .device .running)
-    ⊎ ((t : ℕ) × (x ≡ GoOn t) × (stepOn s T x .answer ≡ Waiting) × (stepOn s T x .after .device .running ≡ 0))
+    (stepOn s T x .after .threads .device .running ≡ T .threads .device .running)
+    ⊎ ((t : ℕ) × (x ≡ GoOn t) × (stepOn s T x .answer ≡ Waiting) × (stepOn s T x .after .threads .device .running ≡ 0))
 running-stays s T x n m = go (steps-record s T x)
   where
     go :
         Record T x (stepOn s T x) →
-        (stepOn s T x .after .device .running ≡ T .device .running)
-        ⊎ ((t : ℕ) × (x ≡ GoOn t) × (stepOn s T x .answer ≡ Waiting) × (stepOn s T x .after .device .running ≡ 0))
+        (stepOn s T x .after .threads .device .running ≡ T .threads .device .running)
+        ⊎ ((t : ℕ) × (x ≡ GoOn t) × (stepOn s T x .answer ≡ Waiting) × (stepOn s T x .after .threads .device .running ≡ 0))
     go (inl e) = inl (ap (λ (d : Device). d .running) e)
     go (inr (inl b)) = absurd (m b)
     go (inr (inr (inl (k, e)))) = inl (ap (λ (d : Device). d .running) e)

@@ -35,11 +35,11 @@ use Rattle.proved_frames.specs.Others.{maker}
 
 -- thread u holds the block at place k
 abbrev pub Holds : State → ℕ → ℕ → Type 0
-Holds T u k = (getD (T .states) k 0 ≡ ALLOCATED) × (getD (T .owners) k 0 ≡ u + 1)
+Holds T u k = (getD (T .pool .states) k 0 ≡ ALLOCATED) × (getD (T .pool .owners) k 0 ≡ u + 1)
 
 -- where the step is another's, the owner stays
 abbrev OwnerStays : ℕ → ℕ → Step → Outcome → Type 0
-OwnerStays u k x o = (maker x ≡ u + 1 → ⊥) → (x ≡ Build → ⊥) → getD (o .after .owners) k 0 ≡ u + 1
+OwnerStays u k x o = (maker x ≡ u + 1 → ⊥) → (x ≡ Build → ⊥) → getD (o .after .pool .owners) k 0 ≡ u + 1
 
 module _ (s : Shape) (T : State) (u k : ℕ) (w : Holds T u k) where
   -- the block that is granted was ALLOCATING
@@ -53,24 +53,24 @@ module _ (s : Shape) (T : State) (u k : ℕ) (w : Holds T u k) where
         again = λ f _ _. w .1;
         takes = λ b bs f q _ _. w .1;
         splits = λ d h _ _. w .1;
-        grants = λ d h _ _. getD-set-other (T .owners) (place s (c .level) (c .block)) k (t + 1) 0 (elsewhere d) ∙ w .1;
+        grants = λ d h _ _. getD-set-other (T .pool .owners) (place s (c .level) (c .block)) k (t + 1) 0 (elsewhere d) ∙ w .1;
         settles = λ r e _ _. w .1;
         merges = λ r e _ _. w .1;
       }
     where
       elsewhere : c .stage ≡ DIVIDING → k ≡ place s (c .level) (c .block) → ⊥
-      elsewhere d q = omega (arith, sym (w .0) ∙ ap (λ (n : ℕ). getD (T .states) n 0) q ∙ allocating g d)
+      elsewhere d q = omega (arith, sym (w .0) ∙ ap (λ (n : ℕ). getD (T .pool .states) n 0) q ∙ allocating g d)
 
   -- the block that is given back was the giver's
   given-other :
-      (t j : ℕ) → getD (T .owners) j 0 ≡ t + 1 → (t + 1 ≡ u + 1 → ⊥) → getD (set (T .owners) j 0) k 0 ≡ u + 1
+      (t j : ℕ) → getD (T .pool .owners) j 0 ≡ t + 1 → (t + 1 ≡ u + 1 → ⊥) → getD (set (T .pool .owners) j 0) k 0 ≡ u + 1
   given-other t j o n =
-      getD-set-other (T .owners) j k 0 0 (λ q. n (sym o ∙ ap (λ (m : ℕ). getD (T .owners) m 0) (sym q) ∙ w .1)) ∙ w .1
+      getD-set-other (T .pool .owners) j k 0 0 (λ q. n (sym o ∙ ap (λ (m : ℕ). getD (T .pool .owners) m 0) (sym q) ∙ w .1)) ∙ w .1
 
   each-owner : EachStep (OwnerStays u k) s T
   each-owner =
       record {
-        stays = λ x r e _ _. w .1;
+        stays = λ x r e u _ _. w .1;
         builds = λ a _ n. absurd (n refl);
         asks = λ t size ms g o h _ _. w .1;
         goes = λ t g. go-on-owner t _ g;
@@ -83,19 +83,19 @@ module _ (s : Shape) (T : State) (u k : ℕ) (w : Holds T u k) where
 
 -- a place with an owner holds a block that is ALLOCATED
 owned-allocated :
-    (s : Shape) (T : State) (u k : ℕ) → Facts s T → getD (T .owners) k 0 ≡ u + 1 → getD (T .states) k 0 ≡ ALLOCATED
+    (s : Shape) (T : State) (u k : ℕ) → Facts s T → getD (T .pool .owners) k 0 ≡ u + 1 → getD (T .pool .states) k 0 ≡ ALLOCATED
 unfolding ownersKnown
 owned-allocated s T u k f e =
     eqb-true _ _
-    (alike (eqb (getD (T .states) k 0) ALLOCATED) _ (both _ _ (every-at (blocks s) _ (f .pool .owned) k inside) .0)
-    ∙ ap not (ne-eqb (getD (T .owners) k 0) 0 (λ q. omega (arith, e, q))))
+    (alike (eqb (getD (T .pool .states) k 0) ALLOCATED) _ (both _ _ (every-at (blocks s) _ (f .pool .owned) k inside) .0)
+    ∙ ap not (ne-eqb (getD (T .pool .owners) k 0) 0 (λ q. omega (arith, e, q))))
   where
     inside : k < blocks s
     inside = go (decLt k (blocks s))
       where
         go : Dec (k < blocks s) → k < blocks s
         go (yes h) = h
-        go (no h) = absurd (omega (arith, e, List·getD-eq-default (T .owners) 0 {n = k} (omega (arith, f .pool .ownersLong))))
+        go (no h) = absurd (omega (arith, e, List·getD-eq-default (T .pool .owners) 0 {n = k} (omega (arith, f .pool .ownersLong))))
 
 -- what a thread holds it holds after every step of another thread
 pub holds-stay :
@@ -125,8 +125,8 @@ held-apart s T u v l b m d y a e p q h k = (level-same, block-same, omega (arith
     inside = byte-inside s l b y limit (p .0) (p .1) (h .1)
 
     level :
-        (l b : ℕ) → l < s .levels → HasByte s l b y → stateAt s (T .states) l b ≡ ALLOCATED →
-        l ≡ coverLevel s (T .states) y (s .levels - 1)
+        (l b : ℕ) → l < s .levels → HasByte s l b y → stateAt s (T .pool .states) l b ≡ ALLOCATED →
+        l ≡ coverLevel s (T .pool .states) y (s .levels - 1)
     level l b i h z = cover-one s T a e y inside .once l i (rw (over l b i h, z) refl)
 
     level-same : l ≡ m
@@ -137,4 +137,4 @@ held-apart s T u v l b m d y a e p q h k = (level-same, block-same, omega (arith
 
     owner-same : u + 1 ≡ v + 1
     owner-same =
-        sym (p .2 .1) ∙ ap₂ (λ (i j : ℕ). getD (T .owners) (place s i j) 0) level-same block-same ∙ q .2 .1
+        sym (p .2 .1) ∙ ap₂ (λ (i j : ℕ). getD (T .pool .owners) (place s i j) 0) level-same block-same ∙ q .2 .1

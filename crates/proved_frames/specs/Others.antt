@@ -54,17 +54,17 @@ wakes-only calls ts u h k = at (times u ts) (eqb (callOf calls u .stage) WAITING
 
 -- where the step is another's
 abbrev OtherStays : State → ℕ → Step → Outcome → Type 0
-OtherStays T u x o = (maker x ≡ u + 1 → ⊥) → (x ≡ Build → ⊥) → CallStays (T .calls) (o .after .calls) u
+OtherStays T u x o = (maker x ≡ u + 1 → ⊥) → (x ≡ Build → ⊥) → CallStays (T .threads .calls) (o .after .threads .calls) u
 
 module _ (s : Shape) (T : State) (u : ℕ) (h : u < s .threads) where
-  queued : Facts s T → times u (queueOf (T .queue)) ≡ bit (eqb (callOf (T .calls) u .stage) WAITING)
-  queued k = named s (T .calls) (T .queue) (k .threads .waiters) .each u h
+  queued : Facts s T → times u (queueOf (T .threads .queue)) ≡ bit (eqb (callOf (T .threads .calls) u .stage) WAITING)
+  queued k = named s (T .threads .calls) (T .threads .queue) (k .threads .waiters) .each u h
 
   -- a tick wakes some of those who are queued
-  ticked-stays : (f : ℕ → Bool) → Facts s T → CallStays (T .calls) (wake (T .calls) (keep f (queueOf (T .queue)))) u
+  ticked-stays : (f : ℕ → Bool) → Facts s T → CallStays (T .threads .calls) (wake (T .threads .calls) (keep f (queueOf (T .threads .queue)))) u
   ticked-stays f k =
-      wakes-only (T .calls) (keep f (queueOf (T .queue))) u (omega (arith, k .threads .long))
-      (omega (arith, times-keep f u (queueOf (T .queue)), fewer (f u) (times u (queueOf (T .queue))), queued k))
+      wakes-only (T .threads .calls) (keep f (queueOf (T .threads .queue))) u (omega (arith, k .threads .long))
+      (omega (arith, times-keep f u (queueOf (T .threads .queue)), fewer (f u) (times u (queueOf (T .threads .queue))), queued k))
     where
       fewer : (b : Bool) (n : ℕ) → cond b n 0 ≤ n
       fewer true n = omega arith
@@ -73,19 +73,19 @@ module _ (s : Shape) (T : State) (u : ℕ) (h : u < s .threads) where
   -- a settle closes its own call and wakes all who are queued
   settled-stays :
       (t : ℕ) → (u ≡ t → ⊥) → Facts s T →
-      CallStays (T .calls) (wake (putCall (T .calls) t closed) (queueOf (T .queue))) u
+      CallStays (T .threads .calls) (wake (putCall (T .threads .calls) t closed) (queueOf (T .threads .queue))) u
   settled-stays t n k =
       rw same at
-      (wakes-only (putCall (T .calls) t closed) (queueOf (T .queue)) u
-      (omega (arith, k .threads .long, length-putCall (T .calls) t closed))
+      (wakes-only (putCall (T .threads .calls) t closed) (queueOf (T .threads .queue)) u
+      (omega (arith, k .threads .long, length-putCall (T .threads .calls) t closed))
       (rw same (omega (arith, queued k))))
     where
-      same : callOf (putCall (T .calls) t closed) u ≡ callOf (T .calls) u
-      same = callOf-putCall-other (T .calls) t u closed n
+      same : callOf (putCall (T .threads .calls) t closed) u ≡ callOf (T .threads .calls) u
+      same = callOf-putCall-other (T .threads .calls) t u closed n
 
   -- the step puts its own thread's call
-  put : (t : ℕ) (c : Call) → (t + 1 ≡ u + 1 → ⊥) → callOf (putCall (T .calls) t c) u ≡ callOf (T .calls) u
-  put t c n = callOf-putCall-other (T .calls) t u c (λ q. n (ap (λ (k : ℕ). k + 1) (sym q)))
+  put : (t : ℕ) (c : Call) → (t + 1 ≡ u + 1 → ⊥) → callOf (putCall (T .threads .calls) t c) u ≡ callOf (T .threads .calls) u
+  put t c n = callOf-putCall-other (T .threads .calls) t u c (λ q. n (ap (λ (k : ℕ). k + 1) (sym q)))
 
   go-on-others : (t : ℕ) (c : Call) → Facts s T → EachGoOn (OtherStays T u (GoOn t)) s T t c
   unfolding takeFrom splitStep grantStep mergeStep settleStep
@@ -105,7 +105,7 @@ module _ (s : Shape) (T : State) (u : ℕ) (h : u < s .threads) where
   each-other : EachStep (OtherStays T u) s T
   each-other =
       record {
-        stays = λ x r e _ _. inl refl;
+        stays = λ x r e u _ _. inl refl;
         builds = λ a _ n. absurd (n refl);
         asks = λ t size ms g o h n _. inl (put t _ n);
         goes = λ t g. go-on-others t _ (facts (g .sound));
@@ -119,5 +119,5 @@ module _ (s : Shape) (T : State) (u : ℕ) (h : u < s .threads) where
 -- whoever makes the step, the call of any other thread stays, or it waited and is asked
 pub others-stay :
     (s : Shape) (T : State) (x : Step) (u : ℕ) → u < s .threads → (maker x ≡ u + 1 → ⊥) → (x ≡ Build → ⊥) →
-    CallStays (T .calls) (stepOn s T x .after .calls) u
+    CallStays (T .threads .calls) (stepOn s T x .after .threads .calls) u
 others-stay s T x u h = each-step (OtherStays T u) s T (each-other s T u h) x

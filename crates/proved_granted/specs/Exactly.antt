@@ -28,17 +28,17 @@ IsGranted o = (i : ℕ) × (o .answer ≡ Granted i)
 
 -- a run of free bytes as long as the smallest block that fits starts at a multiple of that size
 abbrev pub HasRun : Shape → State → ℕ → Type 0
-HasRun s T size = (b : ℕ) × (b < count s (levelFor s size)) × FreeRun s (T .states) (levelFor s size) b
+HasRun s T size = (b : ℕ) × (b < count s (levelFor s size)) × FreeRun s (T .pool .states) (levelFor s size) b
 
 -- there is room for the request, and it ends granted
 pub record Granting (s : Shape) (T : State) (t size : ℕ) : Type 0 where
-  pub room : FreeBlock s (T .states) (levelFor s size)
+  pub room : FreeBlock s (T .pool .states) (levelFor s size)
   pub granted : IsGranted (request s T t size)
   pub ended : Ended t (request s T t size)
 
 -- there is none, and it ends with no room: nothing has changed
 pub record Refusing (s : Shape) (T : State) (t size : ℕ) : Type 0 where
-  pub full : FreeBlock s (T .states) (levelFor s size) → ⊥
+  pub full : FreeBlock s (T .pool .states) (levelFor s size) → ⊥
   pub refused : request s T t size ≡ outcome (Refused NoRoom) T
   pub ended : Ended t (request s T t size)
 
@@ -49,11 +49,11 @@ module _ (s : Shape) (T : State) (t size : ℕ) (a : Asks s T t size) where
   inside : levelFor s size < s .levels
   inside = levelFor-inside s size (limits s (a .runs .sound .shape) .levels .0)
 
-  block-found : ((l : ℕ) × (deepest (T .lists) (levelFor s size) ≡ At l)) ↔ FreeBlock s (T .states) (levelFor s size)
+  block-found : ((l : ℕ) × (deepest (T .pool .lists) (levelFor s size) ≡ At l)) ↔ FreeBlock s (T .pool .states) (levelFor s size)
   block-found = found-room s T (a .runs .sound .lengths) (a .runs .sound .valid) (levelFor s size) inside
 
   -- the request ends in one of two ways, by what its look finds
-  ends : (r : Room) → deepest (T .lists) (levelFor s size) ≡ r → Granting s T t size ⊎ Refusing s T t size
+  ends : (r : Room) → deepest (T .pool .lists) (levelFor s size) ≡ r → Granting s T t size ⊎ Refusing s T t size
   ends (At l) e =
       inl
       (record {
@@ -68,7 +68,7 @@ module _ (s : Shape) (T : State) (t size : ℕ) (a : Asks s T t size) where
       let n = request-nowhere s T t size a e in
       inr (record { full = λ f. none (block-found .1 f); refused = n; ended = rw n (a .isClosed) })
     where
-      none : (l : ℕ) × (deepest (T .lists) (levelFor s size) ≡ At l) → ⊥
+      none : (l : ℕ) × (deepest (T .pool .lists) (levelFor s size) ≡ At l) → ⊥
       none (l, q) = let z : _≡_ {A = ℕ} 0 1 = cc in omega arith
 
   -- the call ends within the number of levels plus two go-on steps
@@ -79,10 +79,10 @@ module _ (s : Shape) (T : State) (t size : ℕ) (a : Asks s T t size) where
       go (inl x) = x .ended
       go (inr x) = x .ended
 
-  granted-block : IsGranted (request s T t size) ↔ FreeBlock s (T .states) (levelFor s size)
+  granted-block : IsGranted (request s T t size) ↔ FreeBlock s (T .pool .states) (levelFor s size)
   granted-block = go (ends _ refl)
     where
-      go : Granting s T t size ⊎ Refusing s T t size → IsGranted (request s T t size) ↔ FreeBlock s (T .states) (levelFor s size)
+      go : Granting s T t size ⊎ Refusing s T t size → IsGranted (request s T t size) ↔ FreeBlock s (T .pool .states) (levelFor s size)
       go (inl x) = (λ i. x .room, λ f. x .granted)
       go (inr x) = (λ i. absurd (no-grant (request s T t size) (ap (λ (o : Outcome). o .answer) (x .refused)) i), λ f. absurd (x .full f))
 
@@ -101,7 +101,7 @@ module _ (s : Shape) (T : State) (t size : ℕ) (a : Asks s T t size) where
 -- in a second pool where each byte free in the first is free too, a size granted in the first is granted, and so is each smaller one
 pub more-room :
     (s : Shape) (T U : State) (t u less size : ℕ) → Asks s T t size → Asks s U u less →
-    ((y : ℕ) → y < bytes s → FreeByte s (T .states) y → FreeByte s (U .states) y) → less ≤ size →
+    ((y : ℕ) → y < bytes s → FreeByte s (T .pool .states) y → FreeByte s (U .pool .states) y) → less ≤ size →
     IsGranted (request s T t size) → IsGranted (request s U u less)
 more-room s T U t u less size a b f h i =
     granted-block s U u less b .1

@@ -36,8 +36,8 @@ goes-on s t n o c g h = until-open s t n o (λ e. h (sym (ap (λ (c : Call). c .
 
 -- thread t runs on valid tables, has no call open, and asks for a size up to the largest block
 pub record Asks (s : Shape) (T : State) (t size : ℕ) : Type 0 where
-  pub runs : Running s T t (callOf (T .calls) t)
-  pub isClosed : callOf (T .calls) t .stage ≡ CLOSED
+  pub runs : Running s T t (callOf (T .threads .calls) t)
+  pub isClosed : callOf (T .threads .calls) t .stage ≡ CLOSED
   pub fits : size ≤ s .«top_size»
 
 -- the tables once it has asked, and once it has found level l
@@ -46,41 +46,41 @@ asked T t size = onlyCall T t (asking size)
 
 -- the same tables with other calls
 abbrev withCalls : State → List ℕ → State
-withCalls T calls = state (T .states) (T .owners) (T .lists) calls (T .queue) (T .device)
+withCalls T calls = state (T .pool .states) (T .pool .owners) (T .pool .lists) calls (T .threads .queue) (T .threads .device)
 
 abbrev pub found : State → ℕ → ℕ → ℕ → State
 found T t size l = onlyCall (asked T t size) t (finding size l)
 
 module _ (s : Shape) (T : State) (t size : ℕ) (a : Asks s T t size) where
   asked-runs : Running s (asked T t size) t (asking size)
-  asked-runs = ask-runs s T t (callOf (T .calls) t) (a .runs) (a .isClosed) size (a .fits)
+  asked-runs = ask-runs s T t (callOf (T .threads .calls) t) (a .runs) (a .isClosed) size (a .fits)
 
   -- the request opens, and its first go-on step looks
   request-looks : request s T t size ≡ until s t (s .levels + 1) (goOn s (asked T t size) t)
   unfolding request
   request-looks =
       let e : s .levels + 2 ≡ suc (s .levels + 1) = omega arith in
-      rw (e, ask-running s T t (callOf (T .calls) t) (a .runs) (a .isClosed) size (a .fits))
+      rw (e, ask-running s T t (callOf (T .threads .calls) t) (a .runs) (a .isClosed) size (a .fits))
       (goes-on s t (s .levels + 1) (outcome Opened (asked T t size)) (asking size) asked-runs (λ e. omega arith))
 
   -- the call that it opens, closed again, leaves the tables as they were before it was asked
   closed-again : onlyCall (asked T t size) t closed ≡ T
   closed-again = ap (λ (calls : List ℕ). withCalls T calls) back
     where
-      was : callOf (T .calls) t ≡ closed
-      was = closed-is (callOf (T .calls) t) (own-facts (a .runs) .fields) (a .isClosed)
+      was : callOf (T .threads .calls) t ≡ closed
+      was = closed-is (callOf (T .threads .calls) t) (own-facts (a .runs) .fields) (a .isClosed)
 
-      back : putCall (putCall (T .calls) t (asking size)) t closed ≡ T .calls
-      back = rw (← was) (put-back s (T .calls) t (asking size) (length-facts s T (a .runs .sound .lengths) .calls) (a .runs .thread))
+      back : putCall (putCall (T .threads .calls) t (asking size)) t closed ≡ T .threads .calls
+      back = rw (← was) (put-back s (T .threads .calls) t (asking size) (length-facts s T (a .runs .sound .lengths) .calls) (a .runs .thread))
 
   -- no room at any level: it ends there, and nothing has changed
-  pub request-nowhere : deepest (T .lists) (levelFor s size) ≡ Nowhere → request s T t size ≡ outcome (Refused NoRoom) T
+  pub request-nowhere : deepest (T .pool .lists) (levelFor s size) ≡ Nowhere → request s T t size ≡ outcome (Refused NoRoom) T
   request-nowhere e =
       request-looks
       ∙ rw (looks-nowhere s (asked T t size) t size asked-runs e, closed-again)
       (until-ended s t (s .levels + 1) (outcome (Refused NoRoom) T) (a .isClosed))
 
-  module _ (l : ℕ) (e : deepest (T .lists) (levelFor s size) ≡ At l) where
+  module _ (l : ℕ) (e : deepest (T .pool .lists) (levelFor s size) ≡ At l) where
     found-runs : Running s (found T t size l) t (finding size l)
     found-runs = at-runs s (asked T t size) t size asked-runs l e
 
@@ -96,16 +96,16 @@ module _ (s : Shape) (T : State) (t size : ℕ) (a : Asks s T t size) where
         (P : State → ℕ → ℕ → Type 0) →
         ((U : State) (l b : ℕ) → Running s U t (dividing size l b) → l < levelFor s size → P U l b →
         P (splitStep s U t (dividing size l b) .after) (l + 1) (parts s * b)) →
-        ((b : ℕ) (bs : List ℕ) → freeList s (T .lists) l ≡ b ∷ bs →
+        ((b : ℕ) (bs : List ℕ) → freeList s (T .pool .lists) l ≡ b ∷ bs →
         P (takeFrom s (found T t size l) t (finding size l) (b ∷ bs) .after) l b) →
         Grant s t size (λ U b. P U (levelFor s size) b) (request s T t size)
     request-granted P next first = go (first-listed s (found T t size l) t size l found-runs (some .0) (some .1))
       where
-        some : (l ≤ levelFor s size) × (0 < getD (T .lists) l 0)
-        some = deepest-some (T .lists) (levelFor s size) l e
+        some : (l ≤ levelFor s size) × (0 < getD (T .pool .lists) l 0)
+        some = deepest-some (T .pool .lists) (levelFor s size) l e
 
         go :
-            (b : ℕ) × (bs : List ℕ) × (freeList s (T .lists) l ≡ b ∷ bs) →
+            (b : ℕ) × (bs : List ℕ) × (freeList s (T .pool .lists) l ≡ b ∷ bs) →
             Grant s t size (λ U b. P U (levelFor s size) b) (request s T t size)
         go (b, bs, q) =
             rw (request-takes, takes s (found T t size l) t size l found-runs, q)

@@ -17,6 +17,7 @@ use Rattle.history.specs.History.{Step, Ask, GoOn, stepOn}
 use Rattle.facts.specs.Running.{Running}
 use Rattle.proved_valid.specs.OneCall.{put-mine}
 use Rattle.proved_valid.specs.Histories.{steps-valid}
+use Rattle.facts.specs.Verdict.{passes, running-passes}
 
 -- a call that is asked and may not wait
 abbrev pub asking : ℕ → Call
@@ -31,23 +32,23 @@ module _ (s : Shape) (T : State) (t : ℕ) (c : Call) (g : Running s T t c) wher
   pub ask-running : c .stage ≡ CLOSED → (size : ℕ) → size ≤ s .«top_size» → askNow s T t size ≡ outcome Opened (onlyCall T t (asking size))
   unfolding ask askStep askedCall wait
   ask-running e size h =
-      rw (g .sound .shape, g .sound .lengths, g .sound .valid, lt-ltb t (s .threads) (g .thread), eq-eqb _ _ (g .running), g .own, e, le-ltb (s .«top_size») size h)
+      rw (passes (g .sound), running-passes s (T .threads .device) t (g .thread) (g .running), g .own, e, le-ltb (s .«top_size») size h)
 
   -- a step that puts another call and keeps the record leaves the thread running on sound tables
   stepped :
-      (x : Step) (U : State) (d : Call) → stepOn s T x .after ≡ U → U .device .running ≡ T .device .running →
-      U .calls ≡ putCall (T .calls) t d → Running s U t d
+      (x : Step) (U : State) (d : Call) → stepOn s T x .after ≡ U → U .threads .device .running ≡ T .threads .device .running →
+      U .threads .calls ≡ putCall (T .threads .calls) t d → Running s U t d
   stepped x U d e r q =
       record {
         sound = rw e at (steps-valid s T x (g .sound));
         thread = g .thread;
         running = r ∙ g .running;
-        own = rw q (put-mine s (T .calls) t d (length-facts s T (g .sound .lengths) .calls) (g .thread));
+        own = rw q (put-mine s (T .threads .calls) t d (length-facts s T (g .sound .lengths) .calls) (g .thread));
       }
 
   pub goOn-runs :
-      (U : State) (d : Call) → goOn s T t .after ≡ U → U .device .running ≡ T .device .running →
-      U .calls ≡ putCall (T .calls) t d → Running s U t d
+      (U : State) (d : Call) → goOn s T t .after ≡ U → U .threads .device .running ≡ T .threads .device .running →
+      U .threads .calls ≡ putCall (T .threads .calls) t d → Running s U t d
   unfolding stepOn
   goOn-runs U d = stepped (GoOn t) U d
 

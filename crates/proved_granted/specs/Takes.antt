@@ -29,33 +29,33 @@ finding size l = record { stage = FOUND; size = size; wait = NEVER; deadline = 0
 
 -- asked: it looks from the level for its size upward
 module _ (s : Shape) (T : State) (t size : ℕ) (g : Running s T t (asking size)) where
-  pub looks : goOn s T t ≡ lookAt s T t (asking size) (deepest (T .lists) (levelFor s size))
+  pub looks : goOn s T t ≡ lookAt s T t (asking size) (deepest (T .pool .lists) (levelFor s size))
   unfolding goOnStep look
   looks = goes g (λ e. omega arith)
 
   -- with room at no level the call ends, and nothing else changes
   pub looks-nowhere :
-      deepest (T .lists) (levelFor s size) ≡ Nowhere → goOn s T t ≡ outcome (Refused NoRoom) (onlyCall T t closed)
+      deepest (T .pool .lists) (levelFor s size) ≡ Nowhere → goOn s T t ≡ outcome (Refused NoRoom) (onlyCall T t closed)
   unfolding lookAt noRoom
   looks-nowhere e = looks ∙ rw e
 
   pub looks-at :
-      (l : ℕ) → deepest (T .lists) (levelFor s size) ≡ At l → goOn s T t ≡ outcome (Found l) (onlyCall T t (finding size l))
+      (l : ℕ) → deepest (T .pool .lists) (levelFor s size) ≡ At l → goOn s T t ≡ outcome (Found l) (onlyCall T t (finding size l))
   unfolding lookAt
   looks-at l e = looks ∙ rw e
 
-  pub at-runs : (l : ℕ) → deepest (T .lists) (levelFor s size) ≡ At l → Running s (onlyCall T t (finding size l)) t (finding size l)
+  pub at-runs : (l : ℕ) → deepest (T .pool .lists) (levelFor s size) ≡ At l → Running s (onlyCall T t (finding size l)) t (finding size l)
   at-runs l e =
       goOn-runs s T t (asking size) g (onlyCall T t (finding size l)) (finding size l) (ap (λ (o : Outcome). o .after) (looks-at l e)) refl refl
 
 -- found: it takes the first block of the level's list
 module _ (s : Shape) (T : State) (t size l : ℕ) (g : Running s T t (finding size l)) where
-  pub takes : goOn s T t ≡ takeFrom s T t (finding size l) (freeList s (T .lists) l)
+  pub takes : goOn s T t ≡ takeFrom s T t (finding size l) (freeList s (T .pool .lists) l)
   unfolding goOnStep takeStep
   takes = goes g (λ e. omega arith)
 
   pub take-runs :
-      (b : ℕ) (bs : List ℕ) → freeList s (T .lists) l ≡ b ∷ bs →
+      (b : ℕ) (bs : List ℕ) → freeList s (T .pool .lists) l ≡ b ∷ bs →
       Running s (takeFrom s T t (finding size l) (b ∷ bs) .after) t (dividing size l b)
   unfolding takeFrom
   take-runs b bs e =
@@ -63,17 +63,17 @@ module _ (s : Shape) (T : State) (t size l : ℕ) (g : Running s T t (finding si
 
   -- a level that was found has a block
   pub first-listed :
-      l ≤ levelFor s size → 0 < getD (T .lists) l 0 → (b : ℕ) × (bs : List ℕ) × (freeList s (T .lists) l ≡ b ∷ bs)
-  first-listed h k = go (freeList s (T .lists) l) refl
+      l ≤ levelFor s size → 0 < getD (T .pool .lists) l 0 → (b : ℕ) × (bs : List ℕ) × (freeList s (T .pool .lists) l ≡ b ∷ bs)
+  first-listed h k = go (freeList s (T .pool .lists) l) refl
     where
       inside : l < s .levels
       inside = omega (arith, levelFor-inside s size (limits s (g .sound .shape) .levels .0))
 
-      long : length (freeList s (T .lists) l) ≡ getD (T .lists) l 0
+      long : length (freeList s (T .pool .lists) l) ≡ getD (T .pool .lists) l 0
       long =
-          length-freeList s (T .lists) l (length-facts s T (g .sound .lengths) .lists) inside
-          (list-short s (T .lists) (valid-facts s T (g .sound .valid) .listEnds) l inside)
+          length-freeList s (T .pool .lists) l (length-facts s T (g .sound .lengths) .lists) inside
+          (list-short s (T .pool .lists) (valid-facts s T (g .sound .valid) .pool .listEnds) l inside)
 
-      go : (xs : List ℕ) → freeList s (T .lists) l ≡ xs → (b : ℕ) × (bs : List ℕ) × (freeList s (T .lists) l ≡ b ∷ bs)
+      go : (xs : List ℕ) → freeList s (T .pool .lists) l ≡ xs → (b : ℕ) × (bs : List ℕ) × (freeList s (T .pool .lists) l ≡ b ∷ bs)
       go [] e = absurd (omega (arith, sym (ap length e) ∙ long))
       go (b ∷ bs) e = (b, bs, e)

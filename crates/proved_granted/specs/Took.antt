@@ -45,8 +45,8 @@ pub record Took (s : Shape) (before after : List ℕ) (l b : ℕ) : Type 0 where
 -- over the bytes of an ALLOCATED block no FREE block lies
 not-free :
     (s : Shape) (T : State) → allowed s ≡ true → valid s T ≡ true → (l y : ℕ) → l < s .levels → y < bytes s →
-    stateAt s (T .states) l (y / size s l) ≡ ALLOCATED → FreeByte s (T .states) y → ⊥
-not-free s T h v l y q k was (m, i, e) = omega (arith, was, ap (λ (n : ℕ). stateAt s (T .states) n (y / size s n)) same, e)
+    stateAt s (T .pool .states) l (y / size s l) ≡ ALLOCATED → FreeByte s (T .pool .states) y → ⊥
+not-free s T h v l y q k was (m, i, e) = omega (arith, was, ap (λ (n : ℕ). stateAt s (T .pool .states) n (y / size s n)) same, e)
   where
     same : m ≡ l
     same = cover-one s T h v y k .once m i (rw e refl) ∙ sym (cover-one s T h v y k .once l q (rw was refl))
@@ -56,23 +56,23 @@ module _ (s : Shape) (T : State) (t wanted l b : ℕ) (g : Running s T t (dividi
   placed : (l < s .levels) × (b < count s l)
   placed = hand-placed g refl
 
-  in-hand : stateAt s (T .states) l b ≡ ALLOCATING
+  in-hand : stateAt s (T .pool .states) l b ≡ ALLOCATING
   in-hand = allocating g refl
 
   -- where it is split, the bytes of its first part, and those that are free, are the same together
   split-free :
       l < levelFor s wanted → (y : ℕ) → y < bytes s →
-      FreeOr s (T .states) l b y ↔ FreeOr s (splitStep s T t (dividing wanted l b) .after .states) (l + 1) (parts s * b) y
+      FreeOr s (T .pool .states) l b y ↔ FreeOr s (splitStep s T t (dividing wanted l b) .after .pool .states) (l + 1) (parts s * b) y
   unfolding splitStep
   split-free h =
-      split-bytes s (T .states) l b (split s) (limits s (g .sound .shape)) (length-facts s T (g .sound .lengths) .states) level (placed .1)
+      split-bytes s (T .pool .states) l b (split s) (limits s (g .sound .shape)) (length-facts s T (g .sound .lengths) .states) level (placed .1)
       (split-wide s)
       (split-part s)
       (λ e. omega (arith, in-hand))
       (λ j i e.
       omega (
         arith,
-        parts-none s (T .states) (valid-facts s T (g .sound .valid) .partsExist) l b j level (placed .1) i (λ d. omega (arith, in-hand)),
+        parts-none s (T .pool .states) (valid-facts s T (g .sound .valid) .pool .partsExist) l b j level (placed .1) i (λ d. omega (arith, in-hand)),
       ))
     where
       level : l + 1 < s .levels
@@ -80,28 +80,28 @@ module _ (s : Shape) (T : State) (t wanted l b : ℕ) (g : Running s T t (dividi
 
   -- where it is granted, no byte changes, and its bytes are not free
   grant-free :
-      (y : ℕ) → y < bytes s → FreeByte s (T .states) y ↔ FreeByte s (grantStep s T t (dividing wanted l b) .after .states) y
+      (y : ℕ) → y < bytes s → FreeByte s (T .pool .states) y ↔ FreeByte s (grantStep s T t (dividing wanted l b) .after .pool .states) y
   unfolding grantStep
   grant-free =
-      same-bytes s (T .states) l b ALLOCATED (limits s (g .sound .shape)) (length-facts s T (g .sound .lengths) .states) (placed .0) (placed .1)
+      same-bytes s (T .pool .states) l b ALLOCATED (limits s (g .sound .shape)) (length-facts s T (g .sound .lengths) .states) (placed .0) (placed .1)
       (λ e. omega arith)
       (λ e. omega (arith, in-hand))
 
   grant-stops :
       levelFor s wanted ≤ l → (y : ℕ) → y < bytes s → y / size s l ≡ b →
-      FreeByte s (grantStep s T t (dividing wanted l b) .after .states) y → ⊥
+      FreeByte s (grantStep s T t (dividing wanted l b) .after .pool .states) y → ⊥
   unfolding grantStep
   grant-stops h y k e =
       not-free s (grantStep s T t (dividing wanted l b) .after) (g .sound .shape) (grant-runs s T t wanted l b g h .sound .valid) l y (placed .0) k
-      (rw e (getD-set-same (T .states) (place s l b) ALLOCATED 0 inside))
+      (rw e (getD-set-same (T .pool .states) (place s l b) ALLOCATED 0 inside))
     where
-      inside : place s l b < length (T .states)
+      inside : place s l b < length (T .pool .states)
       inside = rw (length-facts s T (g .sound .lengths) .states) (place-inside s l b (placed .0) (placed .1))
 
 module _ (s : Shape) (T : State) (t wanted : ℕ) (a : Asks s T t wanted) where
   -- what was free when it was asked is free, or lies in block b of level l, in hand
   abbrev Held : State → ℕ → ℕ → Type 0
-  Held U l b = (y : ℕ) → y < bytes s → FreeByte s (T .states) y ↔ FreeOr s (U .states) l b y
+  Held U l b = (y : ℕ) → y < bytes s → FreeByte s (T .pool .states) y ↔ FreeOr s (U .pool .states) l b y
 
   next :
       (U : State) (l b : ℕ) → Running s U t (dividing wanted l b) → l < levelFor s wanted → Held U l b →
@@ -109,23 +109,23 @@ module _ (s : Shape) (T : State) (t wanted : ℕ) (a : Asks s T t wanted) where
   next U l b g h p y k = Iff·trans (p y k) (split-free s U t wanted l b g h y k)
 
   first :
-      (l : ℕ) → l < s .levels → (b : ℕ) (bs : List ℕ) → freeList s (T .lists) l ≡ b ∷ bs →
+      (l : ℕ) → l < s .levels → (b : ℕ) (bs : List ℕ) → freeList s (T .pool .lists) l ≡ b ∷ bs →
       Held (takeFrom s (found T t wanted l) t (finding wanted l) (b ∷ bs) .after) l b
   unfolding takeFrom
   first l h b bs q =
-      take-bytes s (T .states) l b ALLOCATING (limits s (a .runs .sound .shape)) (length-facts s T (a .runs .sound .lengths) .states) h block
+      take-bytes s (T .pool .states) l b ALLOCATING (limits s (a .runs .sound .shape)) (length-facts s T (a .runs .sound .lengths) .states) h block
       (λ e. omega arith)
-      (listed-free s (T .states) (T .lists) (valid-facts s T (a .runs .sound .valid) .freeListed) l b bs h q)
+      (listed-free s (T .pool .states) (T .pool .lists) (valid-facts s T (a .runs .sound .valid) .pool .freeListed) l b bs h q)
     where
       block : b < count s l
       block =
           rw q at
-          (member-inside s (T .states) (T .lists) (valid-facts s T (a .runs .sound .valid) .freeListed) l 0 h (rw q (omega arith)))
+          (member-inside s (T .pool .states) (T .pool .lists) (valid-facts s T (a .runs .sound .valid) .pool .freeListed) l 0 h (rw q (omega arith)))
 
   -- so once it is granted the bytes of that block have stopped being free, and no others
   took :
       (o : Outcome) (r : Grant s t wanted (λ U b. Held U (levelFor s wanted) b) o) →
-      Took s (T .states) (o .after .states) (levelFor s wanted) (r .block)
+      Took s (T .pool .states) (o .after .pool .states) (levelFor s wanted) (r .block)
   took o r =
       record {
         block = block;
@@ -148,15 +148,15 @@ module _ (s : Shape) (T : State) (t wanted : ℕ) (a : Asks s T t wanted) where
       inside : (y : ℕ) → y < offset s (levelFor s wanted) (r .block + 1) → y < bytes s
       inside y n = byte-inside s (levelFor s wanted) (r .block) y (limits s (a .runs .sound .shape)) level block n
 
-      unchanged : (y : ℕ) → y < bytes s → FreeByte s (r .tables .states) y ↔ FreeByte s (o .after .states) y
+      unchanged : (y : ℕ) → y < bytes s → FreeByte s (r .tables .pool .states) y ↔ FreeByte s (o .after .pool .states) y
       unchanged = rw (r .is) (grant-free s (r .tables) t wanted (levelFor s wanted) (r .block) (r .runs))
 
-      stopped : (y : ℕ) → y < bytes s → y / size s (levelFor s wanted) ≡ r .block → FreeByte s (o .after .states) y → ⊥
+      stopped : (y : ℕ) → y < bytes s → y / size s (levelFor s wanted) ≡ r .block → FreeByte s (o .after .pool .states) y → ⊥
       stopped = rw (r .is) (grant-stops s (r .tables) t wanted (levelFor s wanted) (r .block) (r .runs) (omega arith))
 
       kept :
           (y : ℕ) → y < bytes s → (HasByte s (levelFor s wanted) (r .block) y → ⊥) →
-          FreeOr s (r .tables .states) (levelFor s wanted) (r .block) y → FreeByte s (o .after .states) y
+          FreeOr s (r .tables .pool .states) (levelFor s wanted) (r .block) y → FreeByte s (o .after .pool .states) y
       kept y k n (inl f) = unchanged y k .0 f
       kept y k n (inr w) = absurd (n (lies .0 w))
 
@@ -164,20 +164,20 @@ module _ (s : Shape) (T : State) (t wanted : ℕ) (a : Asks s T t wanted) where
   pub granted-took :
       IsGranted (request s T t wanted) →
       (b : ℕ) × (request s T t wanted .answer ≡ Granted (id s (levelFor s wanted) b))
-      × Took s (T .states) (request s T t wanted .after .states) (levelFor s wanted) b
-  granted-took i = go (deepest (T .lists) (levelFor s wanted)) refl
+      × Took s (T .pool .states) (request s T t wanted .after .pool .states) (levelFor s wanted) b
+  granted-took i = go (deepest (T .pool .lists) (levelFor s wanted)) refl
     where
       go :
-          (r : Room) → deepest (T .lists) (levelFor s wanted) ≡ r →
+          (r : Room) → deepest (T .pool .lists) (levelFor s wanted) ≡ r →
           (b : ℕ) × (request s T t wanted .answer ≡ Granted (id s (levelFor s wanted) b))
-          × Took s (T .states) (request s T t wanted .after .states) (levelFor s wanted) b
+          × Took s (T .pool .states) (request s T t wanted .after .pool .states) (levelFor s wanted) b
       go (At l) e = (grant .block, grant-answer s t wanted _ _ grant, took _ grant)
         where
           level : l < s .levels
           level =
               omega (
                 arith,
-                deepest-some (T .lists) (levelFor s wanted) l e,
+                deepest-some (T .pool .lists) (levelFor s wanted) l e,
                 levelFor-inside s wanted (limits s (a .runs .sound .shape) .levels .0),
               )
 

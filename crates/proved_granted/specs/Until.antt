@@ -19,12 +19,12 @@ use Rattle.proved_granted.specs.Stepped.{askNow}
 
 -- thread t's call as a step leaves it is not open
 abbrev pub Ended : ℕ → Outcome → Type 0
-Ended t o = callOf (o .after .calls) t .stage ≡ CLOSED
+Ended t o = callOf (o .after .threads .calls) t .stage ≡ CLOSED
 
 -- what the last step left, where thread t goes on from there until its call ends, at most n times
 unfoldable pub until : Shape → ℕ → ℕ → Outcome → Outcome
 until s t zero o = o
-until s t (suc n) o = cond (eqb (callOf (o .after .calls) t .stage) CLOSED) o (until s t n (goOn s (o .after) t))
+until s t (suc n) o = cond (eqb (callOf (o .after .threads .calls) t .stage) CLOSED) o (until s t n (goOn s (o .after) t))
 
 -- a request that may not wait and its go-on steps, with nothing in between, as many as there are levels and two at the most
 unfoldable pub request : Shape → State → ℕ → ℕ → Outcome
@@ -47,7 +47,7 @@ pub until-steps :
 unfolding until runSteps stepOn
 until-steps s t zero o = (0, omega arith, refl)
 until-steps s t (suc n) o =
-    pick (eqb (callOf (o .after .calls) t .stage) CLOSED) (until-steps s t n (goOn s (o .after) t))
+    pick (eqb (callOf (o .after .threads .calls) t .stage) CLOSED) (until-steps s t n (goOn s (o .after) t))
   where
     pick :
         (b : Bool) →

@@ -49,11 +49,11 @@ pub record Divides (s : Shape) (before after : Call) (n : ℕ) : Type 0 where
 
 module _ (s : Shape) (T : State) (u : ℕ) (k : Sound s T) (thread : u < s .threads) where
   -- a turn is the thread's go on, while it runs
-  turn-is : (x : Step) → turn T u x ≡ true → (x ≡ GoOn u) × Running s T u (callOf (T .calls) u)
+  turn-is : (x : Step) → turn T u x ≡ true → (x ≡ GoOn u) × Running s T u (callOf (T .threads .calls) u)
   turn-is Build e = absurd (false≢true e)
   turn-is (Ask t size ms) e = absurd (false≢true e)
   turn-is (GoOn t) e =
-      let w = both (eqb t u) (eqb (T .device .running) (u + 1)) e in
+      let w = both (eqb t u) (eqb (T .threads .device .running) (u + 1)) e in
       (ap GoOn (eqb-true t u (w .0)), record { sound = k; thread = thread; running = eqb-true _ _ (w .1); own = refl })
   turn-is (Give t i) e = absurd (false≢true e)
   turn-is (Switch t) e = absurd (false≢true e)
@@ -62,14 +62,14 @@ module _ (s : Shape) (T : State) (u : ℕ) (k : Sound s T) (thread : u < s .thre
 
   -- one step: what is left falls by the turn, where the step is one
   divides-one :
-      (x : Step) (b : Bool) → turn T u x ≡ b → builds x ≡ false → callOf (T .calls) u .stage ≡ DIVIDING →
-      bit b ≤ leftOf s (callOf (T .calls) u) →
-      Divides s (callOf (T .calls) u) (callOf (stepOn s T x .after .calls) u) (bit b)
+      (x : Step) (b : Bool) → turn T u x ≡ b → builds x ≡ false → callOf (T .threads .calls) u .stage ≡ DIVIDING →
+      bit b ≤ leftOf s (callOf (T .threads .calls) u) →
+      Divides s (callOf (T .threads .calls) u) (callOf (stepOn s T x .after .threads .calls) u) (bit b)
   unfolding stepOn
   divides-one x true e n d h =
       let w = turn-is x e in
       rw (w .0)
-      (let f = left-falls (w .1) d (leftOf s (callOf (T .calls) u) - 1) (omega arith) _ refl in
+      (let f = left-falls (w .1) d (leftOf s (callOf (T .threads .calls) u) - 1) (omega arith) _ refl in
       record { stage = f .0; size = f .1; left = omega (arith, f .2) })
   divides-one x false e n d h =
       rw (call-stays s T u thread (λ q. omega (arith, sym d ∙ q)) (λ q. omega (arith, sym d ∙ q)) x n e)
@@ -77,21 +77,21 @@ module _ (s : Shape) (T : State) (u : ℕ) (k : Sound s T) (thread : u < s .thre
 
   -- releasing, one step: the level falls by the turn, or the call is closed
   releases-one :
-      (x : Step) (b : Bool) → turn T u x ≡ b → builds x ≡ false → callOf (T .calls) u .stage ≡ RELEASING →
-      ((callOf (stepOn s T x .after .calls) u .stage ≡ RELEASING)
-      × (callOf (stepOn s T x .after .calls) u .level + bit b ≡ callOf (T .calls) u .level))
-      ⊎ (callOf (stepOn s T x .after .calls) u ≡ closed)
+      (x : Step) (b : Bool) → turn T u x ≡ b → builds x ≡ false → callOf (T .threads .calls) u .stage ≡ RELEASING →
+      ((callOf (stepOn s T x .after .threads .calls) u .stage ≡ RELEASING)
+      × (callOf (stepOn s T x .after .threads .calls) u .level + bit b ≡ callOf (T .threads .calls) u .level))
+      ⊎ (callOf (stepOn s T x .after .threads .calls) u ≡ closed)
   unfolding stepOn
   releases-one x true e n d = let w = turn-is x e in rw (w .0) (pick (own-releases (w .1) d))
     where
       pick :
-          ((0 < callOf (T .calls) u .level)
-          × Next (goOn s T u) u (holding RELEASING 0 (callOf (T .calls) u .level - 1) (callOf (T .calls) u .block / parts s))
-          (Merged (id s (callOf (T .calls) u .level - 1) (callOf (T .calls) u .block / parts s))))
-          ⊎ Next (goOn s T u) u closed (Settled (length (queueOf (T .queue)))) →
-          ((callOf (goOn s T u .after .calls) u .stage ≡ RELEASING)
-          × (callOf (goOn s T u .after .calls) u .level + 1 ≡ callOf (T .calls) u .level))
-          ⊎ (callOf (goOn s T u .after .calls) u ≡ closed)
+          ((0 < callOf (T .threads .calls) u .level)
+          × Next (goOn s T u) u (holding RELEASING 0 (callOf (T .threads .calls) u .level - 1) (callOf (T .threads .calls) u .block / parts s))
+          (Merged (id s (callOf (T .threads .calls) u .level - 1) (callOf (T .threads .calls) u .block / parts s))))
+          ⊎ Next (goOn s T u) u closed (Settled (length (queueOf (T .threads .queue)))) →
+          ((callOf (goOn s T u .after .threads .calls) u .stage ≡ RELEASING)
+          × (callOf (goOn s T u .after .threads .calls) u .level + 1 ≡ callOf (T .threads .calls) u .level))
+          ⊎ (callOf (goOn s T u .after .threads .calls) u ≡ closed)
       pick (inl (h, q)) = inl (ap (λ (c : Call). c .stage) (q .1), omega (arith, h, ap (λ (c : Call). c .level) (q .1)))
       pick (inr q) = inr (q .1)
   releases-one x false e n d =
@@ -102,8 +102,8 @@ module _ (s : Shape) (T : State) (u : ℕ) (k : Sound s T) (thread : u < s .thre
 -- so over a history
 pub divides-on :
     (s : Shape) (u : ℕ) (xs : List Step) (T : State) → Sound s T → u < s .threads → built xs ≡ false →
-    callOf (T .calls) u .stage ≡ DIVIDING → turns s T u xs ≤ leftOf s (callOf (T .calls) u) →
-    Divides s (callOf (T .calls) u) (callOf (runSteps s T xs .calls) u) (turns s T u xs)
+    callOf (T .threads .calls) u .stage ≡ DIVIDING → turns s T u xs ≤ leftOf s (callOf (T .threads .calls) u) →
+    Divides s (callOf (T .threads .calls) u) (callOf (runSteps s T xs .threads .calls) u) (turns s T u xs)
 unfolding turns built runSteps
 divides-on s u [] T k l n d h = record { stage = d; size = refl; left = omega arith }
 divides-on s u (x ∷ xs) T k l n d h =
@@ -114,12 +114,12 @@ divides-on s u (x ∷ xs) T k l n d h =
     w = neither (builds x) (built xs) n
 
     go :
-        Divides s (callOf (T .calls) u) (callOf (stepOn s T x .after .calls) u) (bit (turn T u x)) →
-        (callOf (stepOn s T x .after .calls) u .stage ≡ DIVIDING →
-        turns s (stepOn s T x .after) u xs ≤ leftOf s (callOf (stepOn s T x .after .calls) u) →
-        Divides s (callOf (stepOn s T x .after .calls) u) (callOf (runSteps s (stepOn s T x .after) xs .calls) u)
+        Divides s (callOf (T .threads .calls) u) (callOf (stepOn s T x .after .threads .calls) u) (bit (turn T u x)) →
+        (callOf (stepOn s T x .after .threads .calls) u .stage ≡ DIVIDING →
+        turns s (stepOn s T x .after) u xs ≤ leftOf s (callOf (stepOn s T x .after .threads .calls) u) →
+        Divides s (callOf (stepOn s T x .after .threads .calls) u) (callOf (runSteps s (stepOn s T x .after) xs .threads .calls) u)
         (turns s (stepOn s T x .after) u xs)) →
-        Divides s (callOf (T .calls) u) (callOf (runSteps s (stepOn s T x .after) xs .calls) u)
+        Divides s (callOf (T .threads .calls) u) (callOf (runSteps s (stepOn s T x .after) xs .threads .calls) u)
         (bit (turn T u x) + turns s (stepOn s T x .after) u xs)
     go one below =
         let more = below (one .stage) (omega (arith, one .left)) in
@@ -132,23 +132,23 @@ divides-on s u (x ∷ xs) T k l n d h =
 -- after as many turns as there were splits left the thread's next turn grants the block and closes the call
 pub divides-ends :
     (s : Shape) (u : ℕ) (xs : List Step) (T : State) → Sound s T → u < s .threads → built xs ≡ false →
-    callOf (T .calls) u .stage ≡ DIVIDING → turns s T u xs ≡ leftOf s (callOf (T .calls) u) →
-    runSteps s T xs .device .running ≡ u + 1 →
+    callOf (T .threads .calls) u .stage ≡ DIVIDING → turns s T u xs ≡ leftOf s (callOf (T .threads .calls) u) →
+    runSteps s T xs .threads .device .running ≡ u + 1 →
     (stepOn s (runSteps s T xs) (GoOn u) .answer
-    ≡ Granted (id s (callOf (runSteps s T xs .calls) u .level) (callOf (runSteps s T xs .calls) u .block)))
-    × (callOf (stepOn s (runSteps s T xs) (GoOn u) .after .calls) u ≡ closed)
+    ≡ Granted (id s (callOf (runSteps s T xs .threads .calls) u .level) (callOf (runSteps s T xs .threads .calls) u .block)))
+    × (callOf (stepOn s (runSteps s T xs) (GoOn u) .after .threads .calls) u ≡ closed)
 unfolding stepOn
 divides-ends s u xs T k l n d e r =
     own-grants (record { sound = runs-valid s xs T k; thread = l; running = r; own = refl }) (was .stage) (omega (arith, was .left))
   where
-    was : Divides s (callOf (T .calls) u) (callOf (runSteps s T xs .calls) u) (turns s T u xs)
+    was : Divides s (callOf (T .threads .calls) u) (callOf (runSteps s T xs .threads .calls) u) (turns s T u xs)
     was = divides-on s u xs T k l n d (omega arith)
 
 -- a releasing call is closed somewhere in a history in which its thread has more turns than the block's level
 pub releases-end :
     (s : Shape) (u : ℕ) (xs : List Step) (T : State) → Sound s T → u < s .threads → built xs ≡ false →
-    callOf (T .calls) u .stage ≡ RELEASING → callOf (T .calls) u .level < turns s T u xs →
-    (n : ℕ) × (callOf (runSteps s T (take n xs) .calls) u ≡ closed)
+    callOf (T .threads .calls) u .stage ≡ RELEASING → callOf (T .threads .calls) u .level < turns s T u xs →
+    (n : ℕ) × (callOf (runSteps s T (take n xs) .threads .calls) u ≡ closed)
 unfolding turns built runSteps
 releases-end s u [] T k l n d h = absurd (omega arith)
 releases-end s u (x ∷ xs) T k l n d h =
@@ -159,12 +159,12 @@ releases-end s u (x ∷ xs) T k l n d h =
     w = neither (builds x) (built xs) n
 
     go :
-        ((callOf (stepOn s T x .after .calls) u .stage ≡ RELEASING)
-        × (callOf (stepOn s T x .after .calls) u .level + bit (turn T u x) ≡ callOf (T .calls) u .level))
-        ⊎ (callOf (stepOn s T x .after .calls) u ≡ closed) →
-        (callOf (stepOn s T x .after .calls) u .stage ≡ RELEASING →
-        callOf (stepOn s T x .after .calls) u .level < turns s (stepOn s T x .after) u xs →
-        (n : ℕ) × (callOf (runSteps s (stepOn s T x .after) (take n xs) .calls) u ≡ closed)) →
-        (n : ℕ) × (callOf (runSteps s T (take n (x ∷ xs)) .calls) u ≡ closed)
+        ((callOf (stepOn s T x .after .threads .calls) u .stage ≡ RELEASING)
+        × (callOf (stepOn s T x .after .threads .calls) u .level + bit (turn T u x) ≡ callOf (T .threads .calls) u .level))
+        ⊎ (callOf (stepOn s T x .after .threads .calls) u ≡ closed) →
+        (callOf (stepOn s T x .after .threads .calls) u .stage ≡ RELEASING →
+        callOf (stepOn s T x .after .threads .calls) u .level < turns s (stepOn s T x .after) u xs →
+        (n : ℕ) × (callOf (runSteps s (stepOn s T x .after) (take n xs) .threads .calls) u ≡ closed)) →
+        (n : ℕ) × (callOf (runSteps s T (take n (x ∷ xs)) .threads .calls) u ≡ closed)
     go (inl (q, f)) below = let more = below q (omega (arith, f)) in (suc (more .0), more .1)
     go (inr q) below = (1, q)

@@ -62,16 +62,16 @@ grants-fit s clock c a f d h =
 
 -- where the step grants, it is a go on, and the block fits the size of its thread's call
 abbrev FitsThen : Shape → State → Step → Outcome → Type 0
-FitsThen s T x o = (t i : ℕ) → x ≡ GoOn t → o .answer ≡ Granted i → Fits s (callOf (T .calls) t .size) i
+FitsThen s T x o = (t i : ℕ) → x ≡ GoOn t → o .answer ≡ Granted i → Fits s (callOf (T .threads .calls) t .size) i
 
 module _ (s : Shape) (T : State) where
   -- it does not grant
   other :
       {x : Step} (a : Answer) → ((i : ℕ) → a ≡ Granted i → _≡_ {A = ℕ} 0 1) → (t i : ℕ) → x ≡ GoOn t → a ≡ Granted i →
-      Fits s (callOf (T .calls) t .size) i
+      Fits s (callOf (T .threads .calls) t .size) i
   other a n t i q e = absurd (omega (arith, n i e))
 
-  go-on-fits : (t : ℕ) → Running s T t (callOf (T .calls) t) → EachGoOn (FitsThen s T (GoOn t)) s T t (callOf (T .calls) t)
+  go-on-fits : (t : ℕ) → Running s T t (callOf (T .threads .calls) t) → EachGoOn (FitsThen s T (GoOn t)) s T t (callOf (T .threads .calls) t)
   unfolding takeFrom splitStep grantStep mergeStep settleStep
   go-on-fits t g =
       record {
@@ -90,11 +90,11 @@ module _ (s : Shape) (T : State) where
       same u e = cc
 
       granted :
-          callOf (T .calls) t .stage ≡ DIVIDING → levelFor s (callOf (T .calls) t .size) ≤ callOf (T .calls) t .level →
-          FitsThen s T (GoOn t) (grantStep s T t (callOf (T .calls) t))
+          callOf (T .threads .calls) t .stage ≡ DIVIDING → levelFor s (callOf (T .threads .calls) t .size) ≤ callOf (T .threads .calls) t .level →
+          FitsThen s T (GoOn t) (grantStep s T t (callOf (T .threads .calls) t))
       granted d h u i q e =
           rw (same u q)
-          (rw (← named _ i e) (grants-fit s (T .device .clock) (callOf (T .calls) t) (g .sound .shape) (own-facts g) d h))
+          (rw (← named _ i e) (grants-fit s (T .threads .device .clock) (callOf (T .threads .calls) t) (g .sound .shape) (own-facts g) d h))
         where
           named : (j i : ℕ) → Granted j ≡ Granted i → j ≡ i
           named j i e = cc
@@ -103,7 +103,7 @@ module _ (s : Shape) (T : State) where
   steps-fit =
       each-step (FitsThen s T) s T
       (record {
-        stays = λ x r e. other _ (λ i e. cc);
+        stays = λ x r e u. other _ (λ i e. cc);
         builds = λ a. other _ (λ i e. cc);
         asks = λ t size ms g o h. other _ (λ i e. cc);
         goes = go-on-fits;
@@ -117,5 +117,5 @@ module _ (s : Shape) (T : State) where
 -- whatever the tables, a go on that answers granted names a block that fits the size of the thread's call
 pub granted-fits :
     (s : Shape) (T : State) (t i : ℕ) → stepOn s T (GoOn t) .answer ≡ Granted i →
-    Fits s (callOf (T .calls) t .size) i
+    Fits s (callOf (T .threads .calls) t .size) i
 granted-fits s T t i e = steps-fit s T (GoOn t) t i refl e

@@ -32,11 +32,11 @@ leftOf s c = levelFor s (c .size) - c .level
 
 -- thread t's call and the answer as a go on leaves them
 abbrev pub Next : Outcome → ℕ → Call → Answer → Type 0
-Next o t c a = (o .answer ≡ a) × (callOf (o .after .calls) t ≡ c)
+Next o t c a = (o .answer ≡ a) × (callOf (o .after .threads .calls) t ≡ c)
 
 module _ {s : Shape} {T : State} {t : ℕ} {c : Call} (g : Running s T t c) where
-  mine : (d : Call) → callOf (putCall (T .calls) t d) t ≡ d
-  mine d = put-mine s (T .calls) t d (length-facts s T (g .sound .lengths) .calls) (g .thread)
+  mine : (d : Call) → callOf (putCall (T .threads .calls) t d) t ≡ d
+  mine d = put-mine s (T .threads .calls) t d (length-facts s T (g .sound .lengths) .calls) (g .thread)
 
   -- above its level the block is split, and the call is dividing for the same size one level deeper
   pub own-splits :
@@ -54,7 +54,7 @@ module _ {s : Shape} {T : State} {t : ℕ} {c : Call} (g : Running s T t c) wher
 
   -- so what is left falls by one with each own go on
   pub left-falls :
-      c .stage ≡ DIVIDING → (n : ℕ) → leftOf s c ≡ n + 1 → (d : Call) → callOf (goOn s T t .after .calls) t ≡ d →
+      c .stage ≡ DIVIDING → (n : ℕ) → leftOf s c ≡ n + 1 → (d : Call) → callOf (goOn s T t .after .threads .calls) t ≡ d →
       (d .stage ≡ DIVIDING) × (d .size ≡ c .size) × (leftOf s d ≡ n)
   left-falls e n k d q = rw (sym q ∙ own-splits e (omega (arith, k)) .1) (refl, refl, omega (arith, k))
 
@@ -64,18 +64,18 @@ module _ {s : Shape} {T : State} {t : ℕ} {c : Call} (g : Running s T t c) wher
       ((0 < c .level)
       × Next (goOn s T t) t (holding RELEASING 0 (c .level - 1) (c .block / parts s))
       (Merged (id s (c .level - 1) (c .block / parts s))))
-      ⊎ Next (goOn s T t) t closed (Settled (length (queueOf (T .queue))))
+      ⊎ Next (goOn s T t) t closed (Settled (length (queueOf (T .threads .queue))))
   unfolding releaseStep mergeStep settleStep merges
-  own-releases d = rw (releases g d) (pick (merges s (T .states) (c .level) (c .block)) refl)
+  own-releases d = rw (releases g d) (pick (merges s (T .pool .states) (c .level) (c .block)) refl)
     where
-      asleep : callOf (settleStep s T t c .after .calls) t ≡ closed
-      asleep = wake-other (putCall (T .calls) t closed) (queueOf (T .queue)) t (not-queued g) ∙ mine closed
+      asleep : callOf (settleStep s T t c .after .threads .calls) t ≡ closed
+      asleep = wake-other (putCall (T .threads .calls) t closed) (queueOf (T .threads .queue)) t (not-queued g) ∙ mine closed
 
       pick :
-          (b : Bool) → merges s (T .states) (c .level) (c .block) ≡ b →
+          (b : Bool) → merges s (T .pool .states) (c .level) (c .block) ≡ b →
           ((0 < c .level)
           × Next (cond b (mergeStep s T t c) (settleStep s T t c)) t (holding RELEASING 0 (c .level - 1) (c .block / parts s))
           (Merged (id s (c .level - 1) (c .block / parts s))))
-          ⊎ Next (cond b (mergeStep s T t c) (settleStep s T t c)) t closed (Settled (length (queueOf (T .queue))))
+          ⊎ Next (cond b (mergeStep s T t c) (settleStep s T t c)) t closed (Settled (length (queueOf (T .threads .queue))))
       pick true e = inl (ltb-true _ _ (both (ltb 0 (c .level)) _ e .0), (refl, mine _))
       pick false e = inr (refl, asleep)

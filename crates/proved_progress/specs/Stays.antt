@@ -31,7 +31,7 @@ builds Whole = false
 abbrev pub turn : State → ℕ → Step → Bool
 turn T u Build = false
 turn T u (Ask t size ms) = false
-turn T u (GoOn t) = eqb t u && eqb (T .device .running) (u + 1)
+turn T u (GoOn t) = eqb t u && eqb (T .threads .device .running) (u + 1)
 turn T u (Give t i) = false
 turn T u (Switch t) = false
 turn T u Tick = false
@@ -52,23 +52,23 @@ every-way f =
       merges = λ r e. f _;
     }
 
-module _ (s : Shape) (T : State) (u : ℕ) (h : u < s .threads) (opened : callOf (T .calls) u .stage ≡ CLOSED → ⊥)
-    (awake : callOf (T .calls) u .stage ≡ WAITING → ⊥) where
+module _ (s : Shape) (T : State) (u : ℕ) (h : u < s .threads) (opened : callOf (T .threads .calls) u .stage ≡ CLOSED → ⊥)
+    (awake : callOf (T .threads .calls) u .stage ≡ WAITING → ⊥) where
   -- the thread's own step that is no turn of it is refused, as its call is open
   abbrev OwnStays : Step → Outcome → Type 0
-  OwnStays x o = maker x ≡ u + 1 → turn T u x ≡ false → callOf (o .after .calls) u ≡ callOf (T .calls) u
+  OwnStays x o = maker x ≡ u + 1 → turn T u x ≡ false → callOf (o .after .threads .calls) u ≡ callOf (T .threads .calls) u
 
-  shut : (t : ℕ) → callOf (T .calls) t .stage ≡ CLOSED → t + 1 ≡ u + 1 → ⊥
-  shut t e m = let q : u ≡ t = omega arith in opened (ap (λ (k : ℕ). callOf (T .calls) k .stage) q ∙ e)
+  shut : (t : ℕ) → callOf (T .threads .calls) t .stage ≡ CLOSED → t + 1 ≡ u + 1 → ⊥
+  shut t e m = let q : u ≡ t = omega arith in opened (ap (λ (k : ℕ). callOf (T .threads .calls) k .stage) q ∙ e)
 
-  turned : (t : ℕ) → T .device .running ≡ t + 1 → t + 1 ≡ u + 1 → turn T u (GoOn t) ≡ false → ⊥
+  turned : (t : ℕ) → T .threads .device .running ≡ t + 1 → t + 1 ≡ u + 1 → turn T u (GoOn t) ≡ false → ⊥
   turned t r m n = true≢false (sym (both-of _ _ (eq-eqb t u (omega arith)) (eq-eqb _ _ (r ∙ m))) ∙ n)
 
   own-stays : (x : Step) → OwnStays x (stepOn s T x)
   own-stays =
       each-step OwnStays s T
       (record {
-        stays = λ x r e m n. refl;
+        stays = λ x r e u m n. refl;
         builds = λ a m n. absurd (omega arith);
         asks = λ t size ms g o k m n. absurd (shut t o m);
         goes = λ t g. every-way (λ o m n. absurd (turned t (g .running) m n));
@@ -80,13 +80,13 @@ module _ (s : Shape) (T : State) (u : ℕ) (h : u < s .threads) (opened : callOf
       })
 
   pub call-stays :
-      (x : Step) → builds x ≡ false → turn T u x ≡ false → callOf (stepOn s T x .after .calls) u ≡ callOf (T .calls) u
+      (x : Step) → builds x ≡ false → turn T u x ≡ false → callOf (stepOn s T x .after .threads .calls) u ≡ callOf (T .threads .calls) u
   call-stays x b n = go (ℕ-discrete (maker x) (u + 1))
     where
-      still : CallStays (T .calls) (stepOn s T x .after .calls) u → callOf (stepOn s T x .after .calls) u ≡ callOf (T .calls) u
+      still : CallStays (T .threads .calls) (stepOn s T x .after .threads .calls) u → callOf (stepOn s T x .after .threads .calls) u ≡ callOf (T .threads .calls) u
       still (inl e) = e
       still (inr (w, _)) = absurd (awake w)
 
-      go : Dec (maker x ≡ u + 1) → callOf (stepOn s T x .after .calls) u ≡ callOf (T .calls) u
+      go : Dec (maker x ≡ u + 1) → callOf (stepOn s T x .after .threads .calls) u ≡ callOf (T .threads .calls) u
       go (yes m) = own-stays x m n
       go (no m) = still (others-stay s T x u h m (λ e. true≢false (sym (ap builds e) ∙ b)))

@@ -36,28 +36,28 @@ waits-of s clock c f e =
 
 -- whoever waits may wait, and waits for a time that the clock has not reached
 pub waits :
-    (s : Shape) (T : State) (t : ℕ) → valid s T ≡ true → t < s .threads → callOf (T .calls) t .stage ≡ WAITING →
-    Waits (T .device .clock) (callOf (T .calls) t)
+    (s : Shape) (T : State) (t : ℕ) → valid s T ≡ true → t < s .threads → callOf (T .threads .calls) t .stage ≡ WAITING →
+    Waits (T .threads .device .clock) (callOf (T .threads .calls) t)
 waits s T t v h e =
-    waits-of s (T .device .clock) (callOf (T .calls) t)
-    (call-facts s (T .device .clock) (T .calls) (valid-facts s T v .callsKept) t h)
+    waits-of s (T .threads .device .clock) (callOf (T .threads .calls) t)
+    (call-facts s (T .threads .device .clock) (T .threads .calls) (valid-facts s T v .threads .callsKept) t h)
     e
 
 -- a call that may not wait is never waiting
 pub never-waits :
-    (s : Shape) (T : State) (t : ℕ) → valid s T ≡ true → t < s .threads → callOf (T .calls) t .wait ≡ NEVER →
-    callOf (T .calls) t .stage ≡ WAITING → ⊥
+    (s : Shape) (T : State) (t : ℕ) → valid s T ≡ true → t < s .threads → callOf (T .threads .calls) t .wait ≡ NEVER →
+    callOf (T .threads .calls) t .stage ≡ WAITING → ⊥
 never-waits s T t v h n e = waits s T t v h e .may n
 
 -- once the clock has reached its deadline a timed call is not waiting
 pub timed-waits :
-    (s : Shape) (T : State) (t : ℕ) → valid s T ≡ true → t < s .threads → callOf (T .calls) t .wait ≡ TIMED →
-    callOf (T .calls) t .deadline ≤ T .device .clock → callOf (T .calls) t .stage ≡ WAITING → ⊥
+    (s : Shape) (T : State) (t : ℕ) → valid s T ≡ true → t < s .threads → callOf (T .threads .calls) t .wait ≡ TIMED →
+    callOf (T .threads .calls) t .deadline ≤ T .threads .device .clock → callOf (T .threads .calls) t .stage ≡ WAITING → ⊥
 timed-waits s T t v h n k e = omega (arith, waits s T t v h e .early n)
 
 -- so it is in every state of every history
 pub histories-wait :
     (s : Shape) (xs : List Step) (n t : ℕ) → allowed s ≡ true → t < s .threads →
-    callOf (runSteps s (fresh s) (take n xs) .calls) t .stage ≡ WAITING →
-    Waits (runSteps s (fresh s) (take n xs) .device .clock) (callOf (runSteps s (fresh s) (take n xs) .calls) t)
+    callOf (runSteps s (fresh s) (take n xs) .threads .calls) t .stage ≡ WAITING →
+    Waits (runSteps s (fresh s) (take n xs) .threads .device .clock) (callOf (runSteps s (fresh s) (take n xs) .threads .calls) t)
 histories-wait s xs n t a h e = waits s (runSteps s (fresh s) (take n xs)) t (histories-valid s xs n a .valid) h e

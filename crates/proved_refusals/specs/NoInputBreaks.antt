@@ -21,10 +21,11 @@ use Rattle.rules.specs.declared.Answer.the-variants.{Refused}
 use Rattle.rules.specs.declared.Covered.{Covered}
 use Rattle.rules.specs.declared.Mapped.{Mapped}
 use Rattle.rules.specs.Answers.{refusalNumber, number}
-use Rattle.rules.specs.Tables.{State, lengths}
-use Rattle.rules.specs.Valid.{valid}
+use Rattle.rules.specs.Tables.{State}
 use Rattle.rules.specs.Steps.{Outcome, outcome, onlyCall, closed, takeFrom, splitStep, grantStep, mergeStep, settleStep}
-use Rattle.rules.specs.Questions.{answered, cover, mapIds, MapOutcome, mapOutcome, mapRow, mapPool}
+use Rattle.rules.specs.Refusals.{through, checked}
+use Rattle.rules.specs.Questions.{cover, mapIds, MapOutcome, mapOutcome, mapRow, mapPool}
+use Rattle.facts.specs.Verdict.{by-verdict}
 use Rattle.history.specs.History.{Step, GoOn, stepOn}
 use Rattle.history.specs.Listed.{Entry, entry, listedFor}
 use Rattle.history.specs.Walk.{closes, leaves, EachGoOn, each-step}
@@ -105,7 +106,7 @@ unfolding listedFor
 steps-end s T =
     each-step (StepEnds T) s T
     (record {
-      stays = stays T;
+      stays = λ x r e u. stays T x r e;
       builds = λ a. made T _ _ refl (λ r e. cc);
       asks = λ t size ms g o h. made T _ _ refl (λ r e. cc);
       goes = λ t g. go-on-ends s T t _;
@@ -119,14 +120,8 @@ steps-end s T =
 -- the refusals that every question tries first, and then its own
 module _ {A : Type 0} (Q : A → Type 0) (refused : Refusal → A) (s : Shape) (T : State) (rest : A) where
   on-answer :
-      Q (refused ShapeNotAllowed) → Q (refused WrongLength) → Q (refused NotValid) → Q rest → Q (answered refused s T rest)
-  on-answer a l v q = go (not (allowed s)) (not (lengths s T)) (not (valid s T))
-    where
-      go : (x y z : Bool) → Q (cond x (refused ShapeNotAllowed) (cond y (refused WrongLength) (cond z (refused NotValid) rest)))
-      go true y z = a
-      go false true z = l
-      go false false true = v
-      go false false false = q
+      Q (refused ShapeNotAllowed) → Q (refused WrongLength) → Q (refused NotValid) → Q rest → Q (checked refused s T rest)
+  on-answer a l v q = by-verdict (λ w. Q (through refused w rest)) (λ _. a) (λ _. l) (λ _. v) (λ _. q)
 
 cover-ends : (s : Shape) (T : State) (offset : ℕ) → CoverEnds (cover s T offset)
 unfolding listedFor cover
@@ -148,7 +143,7 @@ map-ends : (s : Shape) (T : State) (row : List ℕ) → MapEnds row (mapPool s T
 unfolding listedFor mapPool mapRow
 map-ends s T row =
     on-answer (MapEnds row) (λ r. mapOutcome (Mapped.Refused r) row) s T _ (refusing _ refl) (refusing _ refl) (refusing _ refl)
-    (own (ltb (length row) (length (mapIds s (T .states)))) _ (λ r e. (cc, cc)))
+    (own (ltb (length row) (length (mapIds s (T .pool .states)))) _ (λ r e. (cc, cc)))
   where
     same-map : (r q : Refusal) → Mapped.Refused r ≡ Mapped.Refused q → r ≡ q
     same-map r q e = cc

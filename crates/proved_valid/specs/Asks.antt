@@ -14,13 +14,13 @@ use Rattle.shape.specs.declared.time.Wait.the-variants.{Never, Forever, Timed, 
 use Rattle.shape.specs.Time.{ticks, longest, ticksOf}
 use Rattle.rules.specs.declared.Call.{Call}
 use Rattle.rules.specs.Numbers.{CLOSED, WAITING, TIMED}
-use Rattle.rules.specs.Tables.{State, callOf}
+use Rattle.rules.specs.Tables.{State, callOf, lent}
 use Rattle.rules.specs.Valid.{usesDeadline, usesBlock, fieldsUsed, handInside, targetKept, sizeKept, foundKept, deadlineKept, mayWait, callKept}
 use Rattle.rules.specs.Steps.{onlyCall}
 use Rattle.rules.specs.Calls.{askedCall, onlyDevice, due}
 use Rattle.facts.specs.Given.{call-facts}
 use Rattle.facts.specs.Running.{Running, uses-block}
-use Rattle.history.specs.Walk.{ticked}
+use Rattle.rules.specs.Calls.{ticked}
 use Rattle.proved_valid.specs.Lines.{Facts}
 use Rattle.laws.specs.Changes.{implied}
 use Rattle.proved_valid.specs.OneCall.{running-of}
@@ -53,16 +53,16 @@ new-ready clock size Outside e = omega arith
 
 pub ask-kept :
     {s : Shape} {T : State} {t : ℕ} {c : Call} → Running s T t c → c .stage ≡ CLOSED → (size : ℕ) (w : Wait) →
-    size ≤ s .«top_size» → ticksOf w ≤ ticks longest → Facts s (onlyCall T t (askedCall (T .device .clock) size w))
+    size ≤ s .«top_size» → ticksOf w ≤ ticks longest → Facts s (onlyCall T t (askedCall (T .threads .device .clock) size w))
 ask-kept {s} {T} {t} {c} g o size w h k =
-    only-call g (askedCall (T .device .clock) size w) (uses-block c CLOSED o) (new-idle (T .device .clock) size w)
-    (new-ready (T .device .clock) size w)
-    (new-kept s (T .device .clock) size w h k)
+    only-call g (askedCall (T .threads .device .clock) size w) (uses-block c CLOSED o) (new-idle (T .threads .device .clock) size w)
+    (new-ready (T .threads .device .clock) size w)
+    (new-kept s (T .threads .device .clock) size w h k)
 
 -- another thread runs, one that isn't blocked
 pub switch-kept :
-    (s : Shape) (T : State) (t : ℕ) → Facts s T → t < s .threads → (callOf (T .calls) t .stage ≡ WAITING → ⊥) →
-    Facts s (onlyDevice T (T .device .clock) (t + 1))
+    (s : Shape) (T : State) (t : ℕ) → Facts s T → t < s .threads → (callOf (T .threads .calls) t .stage ≡ WAITING → ⊥) →
+    Facts s (onlyDevice T (T .threads .device .clock) (t + 1))
 switch-kept s T t f h w =
     record {
       pool = f .pool;
@@ -71,12 +71,11 @@ switch-kept s T t f h w =
             long = f .threads .long;
             queueLong = f .threads .queueLong;
             kept = f .threads .kept;
-            allocating = f .threads .allocating;
-            freeing = f .threads .freeing;
             ends = f .threads .ends;
             waiters = f .threads .waiters;
-            running = running-of s (T .calls) (record { clock = T .device .clock; running = t + 1 }) t refl h w;
+            running = running-of s (T .threads .calls) (record { clock = T .threads .device .clock; running = t + 1 }) t refl h w;
           };
+      hands = f .hands;
     }
 
 -- while a thread waits for a time, that lies above the clock
@@ -99,19 +98,19 @@ unfolding due
 not-due calls clock t d n q = false≢true (sym n ∙ both-of _ _ (eq-eqb _ _ d) (eq-eqb _ _ q))
 
 -- a thread whose deadline comes wakes; the deadlines of the others lie above the new clock
-pub tick-kept : (s : Shape) (T : State) → Facts s T → Facts s (ticked s T)
-tick-kept s T f = wakes-kept f (due (T .calls) (T .device .clock + 1)) (T .device .clock + 1) (omega arith) above
+pub tick-kept : (s : Shape) (T : State) → Facts s T → Facts s (lent (T .pool) (ticked s (T .threads)))
+tick-kept s T f = wakes-kept f (due (T .threads .calls) (T .threads .device .clock + 1)) (T .threads .device .clock + 1) (omega arith) above
   where
     soonest :
-        (t : ℕ) → t < s .threads → callOf (T .calls) t .stage ≡ WAITING → callOf (T .calls) t .wait ≡ TIMED →
-        T .device .clock < callOf (T .calls) t .deadline
+        (t : ℕ) → t < s .threads → callOf (T .threads .calls) t .stage ≡ WAITING → callOf (T .threads .calls) t .wait ≡ TIMED →
+        T .threads .device .clock < callOf (T .threads .calls) t .deadline
     soonest t h w d =
-        deadline-above (T .device .clock) (callOf (T .calls) t)
-        (call-facts s (T .device .clock) (T .calls) (f .threads .kept) t h .deadline)
+        deadline-above (T .threads .device .clock) (callOf (T .threads .calls) t)
+        (call-facts s (T .threads .device .clock) (T .threads .calls) (f .threads .kept) t h .deadline)
         w
         d
 
     above :
-        (t : ℕ) → t < s .threads → callOf (T .calls) t .stage ≡ WAITING → callOf (T .calls) t .wait ≡ TIMED →
-        due (T .calls) (T .device .clock + 1) t ≡ false → T .device .clock + 1 < callOf (T .calls) t .deadline
-    above t h w d n = omega (arith, soonest t h w d, not-due (T .calls) (T .device .clock + 1) t d n)
+        (t : ℕ) → t < s .threads → callOf (T .threads .calls) t .stage ≡ WAITING → callOf (T .threads .calls) t .wait ≡ TIMED →
+        due (T .threads .calls) (T .threads .device .clock + 1) t ≡ false → T .threads .device .clock + 1 < callOf (T .threads .calls) t .deadline
+    above t h w d n = omega (arith, soonest t h w d, not-due (T .threads .calls) (T .threads .device .clock + 1) t d n)

@@ -1,7 +1,7 @@
 -- A block and its parts change state, and the running thread's call with them: the tables stay kept.
 -- Assumes nothing.
 use mathlib.Core.Path.{_≡_}
-use mathlib.Core.Bool.{true, false, not}
+use mathlib.Core.Bool.{true, false, not, Bool}
 use mathlib.Core.List.{List}
 use Prim.Native.Nat.{ℕ, _+_, _*_, _<_}
 use lib.ListN.{getD}
@@ -21,45 +21,45 @@ use Rattle.proved_valid.specs.FreeLists.{Listing}
 use Rattle.proved_valid.specs.Runs.{hands-after, threads-after}
 use Rattle.proved_valid.specs.Family.{Family, Elsewhere, by-family, family, family-long, family-own, family-part, family-rest}
 use Rattle.proved_valid.specs.FamilyLines.{tops-family, parts-family, deepest-family, merged-family}
+use Rattle.facts.specs.Lines.{HandsFacts}
 
 -- blocks stay one to one to calls where they do at the block, at each part and elsewhere
-pub record HandsPassed (s : Shape) (states : List ℕ) (l b own : ℕ) (vs : List ℕ) (c d : Call) (st stage : ℕ) : Type 0 where
-  pub here : bit (eqb own st) + bit (inHand stage l b c) ≡ bit (eqb (stateAt s states l b) st) + bit (inHand stage l b d)
+pub record HandsPassed (s : Shape) (states : List ℕ) (l b own : ℕ) (vs : List ℕ) (c d : Call) (st : ℕ) (test : Call → Bool) : Type 0 where
+  pub here : bit (eqb own st) + bit (inHand test l b c) ≡ bit (eqb (stateAt s states l b) st) + bit (inHand test l b d)
   pub part :
       (j : ℕ) → j < parts s →
-      bit (eqb (getD vs j 0) st) + bit (inHand stage (l + 1) (parts s * b + j) c)
-      ≡ bit (eqb (stateAt s states (l + 1) (parts s * b + j)) st) + bit (inHand stage (l + 1) (parts s * b + j) d)
-  pub rest : (m a : ℕ) → Elsewhere s l b m a → inHand stage m a c ≡ inHand stage m a d
+      bit (eqb (getD vs j 0) st) + bit (inHand test (l + 1) (parts s * b + j) c)
+      ≡ bit (eqb (stateAt s states (l + 1) (parts s * b + j)) st) + bit (inHand test (l + 1) (parts s * b + j) d)
+  pub rest : (m a : ℕ) → Elsewhere s l b m a → inHand test m a c ≡ inHand test m a d
 
 -- what the block and its parts become, the call afterwards, and what is said of the lists that go with it
 pub record Change (s : Shape) (T : State) (t : ℕ) (d : Call) (l b own : ℕ) (vs lists : List ℕ) : Type 0 where
-  pub parted : Family s (T .states) l b vs
-  pub known : Alike (λ x. leb x 5) (T .states) (family s (T .states) l b own vs)
-  pub owned : Alike (λ x. eqb x ALLOCATED) (T .states) (family s (T .states) l b own vs)
-  pub exists : eqb own NOEXIST ≡ eqb (stateAt s (T .states) l b) NOEXIST
+  pub parted : Family s (T .pool .states) l b vs
+  pub known : Alike (λ x. leb x 5) (T .pool .states) (family s (T .pool .states) l b own vs)
+  pub owned : Alike (λ x. eqb x ALLOCATED) (T .pool .states) (family s (T .pool .states) l b own vs)
+  pub exists : eqb own NOEXIST ≡ eqb (stateAt s (T .pool .states) l b) NOEXIST
   pub undivided :
-      (j : ℕ) → j < parts s → eqb (getD vs j 0) DIVIDED ≡ eqb (stateAt s (T .states) (l + 1) (parts s * b + j)) DIVIDED
+      (j : ℕ) → j < parts s → eqb (getD vs j 0) DIVIDED ≡ eqb (stateAt s (T .pool .states) (l + 1) (parts s * b + j)) DIVIDED
   pub made : (j : ℕ) → j < parts s → not (eqb (getD vs j 0) NOEXIST) ≡ eqb own DIVIDED
-  pub free : eqb own FREE ≡ eqb (stateAt s (T .states) l b) FREE
+  pub free : eqb own FREE ≡ eqb (stateAt s (T .pool .states) l b) FREE
   pub unmerged : every (parts s) (λ j. eqb (getD vs j 0) FREE) ≡ false
-  pub listing : Listing s (family s (T .states) l b own vs) lists
-  pub allocating : oneToOne ALLOCATING DIVIDING s (family s (T .states) l b own vs) (putCall (T .calls) t d) ≡ true
-  pub freeing : oneToOne FREEING RELEASING s (family s (T .states) l b own vs) (putCall (T .calls) t d) ≡ true
+  pub listing : Listing s (family s (T .pool .states) l b own vs) lists
+  pub hands : HandsFacts s (family s (T .pool .states) l b own vs) (putCall (T .threads .calls) t d)
   pub ready : d .stage ≡ WAITING → ⊥
-  pub kept : callKept s (T .device .clock) d ≡ true
+  pub kept : callKept s (T .threads .device .clock) d ≡ true
 
 module _ {s : Shape} {T : State} {t : ℕ} {c : Call} (g : Running s T t c) where
   pub hands-family :
-      {d : Call} {l b own : ℕ} {vs : List ℕ} {st stage : ℕ} → Family s (T .states) l b vs →
-      HandsPassed s (T .states) l b own vs c d st stage → oneToOne st stage s (T .states) (T .calls) ≡ true →
-      oneToOne st stage s (family s (T .states) l b own vs) (putCall (T .calls) t d) ≡ true
-  hands-family {d} {l} {b} {own} {vs} {st} {stage} f p k =
-      hands-after g st stage d (family s (T .states) l b own vs) k (λ m a i h. at m a h)
+      {d : Call} {l b own : ℕ} {vs : List ℕ} {st : ℕ} {test : Call → Bool} → Family s (T .pool .states) l b vs →
+      HandsPassed s (T .pool .states) l b own vs c d st test → oneToOne st test s (T .pool .states) (T .threads .calls) ≡ true →
+      oneToOne st test s (family s (T .pool .states) l b own vs) (putCall (T .threads .calls) t d) ≡ true
+  hands-family {d} {l} {b} {own} {vs} {st} {test} f p k =
+      hands-after g st test d (family s (T .pool .states) l b own vs) k (λ m a i h. at m a h)
     where
       at :
           (m a : ℕ) → a < count s m →
-          bit (eqb (stateAt s (family s (T .states) l b own vs) m a) st) + bit (inHand stage m a c)
-          ≡ bit (eqb (stateAt s (T .states) m a) st) + bit (inHand stage m a d)
+          bit (eqb (stateAt s (family s (T .pool .states) l b own vs) m a) st) + bit (inHand test m a c)
+          ≡ bit (eqb (stateAt s (T .pool .states) m a) st) + bit (inHand test m a d)
       at =
           by-family s l b _ (λ h. rw (family-own f own) (p .here))
           (λ j i h. rw (family-part f own j i) (p .part j i))
@@ -67,7 +67,7 @@ module _ {s : Shape} {T : State} {t : ℕ} {c : Call} (g : Running s T t c) wher
 
   pub family-kept :
       {d : Call} {l b own : ℕ} {vs lists : List ℕ} → Change s T t d l b own vs lists →
-      Facts s (state (family s (T .states) l b own vs) (T .owners) lists (putCall (T .calls) t d) (T .queue) (T .device))
+      Facts s (state (family s (T .pool .states) l b own vs) (T .pool .owners) lists (putCall (T .threads .calls) t d) (T .threads .queue) (T .threads .device))
   family-kept {d} {l} {b} {own} {vs} m =
       record {
         pool =
@@ -75,8 +75,8 @@ module _ {s : Shape} {T : State} {t : ℕ} {c : Call} (g : Running s T t c) wher
               long = family-long (m .parted) own;
               ownersLong = facts (g .sound) .pool .ownersLong;
               listsLong = m .listing .long;
-              known = known-alike s (T .states) _ (m .known) (facts (g .sound) .pool .known);
-              owned = owners-alike s (T .states) _ (T .owners) (m .owned) (facts (g .sound) .pool .owned);
+              known = known-alike s (T .pool .states) _ (m .known) (facts (g .sound) .pool .known);
+              owned = owners-alike s (T .pool .states) _ (T .pool .owners) (m .owned) (facts (g .sound) .pool .owned);
               tops = tops-family (m .parted) own (m .exists) (facts (g .sound) .pool .tops);
               parts = parts-family (m .parted) own (m .exists) (m .undivided) (m .made) (facts (g .sound) .pool .parts);
               deepest = deepest-family (m .parted) own (m .undivided) (facts (g .sound) .pool .deepest);
@@ -84,5 +84,6 @@ module _ {s : Shape} {T : State} {t : ℕ} {c : Call} (g : Running s T t c) wher
               ends = m .listing .ends;
               listed = m .listing .listed;
             };
-        threads = threads-after g d (family s (T .states) l b own vs) (m .ready) (m .kept) (m .allocating) (m .freeing);
+        threads = threads-after g d (m .ready) (m .kept);
+        hands = m .hands;
       }

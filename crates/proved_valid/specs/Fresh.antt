@@ -21,13 +21,14 @@ use Rattle.shape.specs.Laws.{Limits, parts-pos, count-top, above-none, above-ne
 use Rattle.shape.specs.Sections.{level-inside, part-inside}
 use Rattle.rules.specs.Numbers.{ALLOCATED, FREE, DIVIDED, NOEXIST, FREEING, ALLOCATING, DIVIDING, RELEASING, CELLS}
 use Rattle.rules.specs.Tables.{stateAt, section, freeList, putList, queueOf, callOf, fresh}
-use Rattle.rules.specs.Valid.{statesKnown, ownersKnown, topsExist, partsExist, deepestWhole, buddiesMerged, listEnds, callsKept, inHand, oneToOne, queueEnds, waitersQueued, runningReady}
+use Rattle.rules.specs.Valid.{statesKnown, ownersKnown, topsExist, partsExist, deepestWhole, buddiesMerged, listEnds, callsKept, inHand, oneToOne, queueEnds, waitersQueued, runningReady, dividing, releasing}
 use Rattle.rules.specs.Steps.{closed}
 use Rattle.proved_valid.specs.Lines.{Facts}
 use Rattle.laws.specs.Changes.{tally-fails, getD-zeros, times-among, times-outside}
 use Rattle.proved_valid.specs.CallLines.{closed-kept}
 use Rattle.proved_valid.specs.FreeLists.{Lists, Listing, listed-of, listing-put}
 use Rattle.proved_valid.specs.QueueKept.{waiters-of}
+use Rattle.rules.specs.declared.Call.{Call}
 
 -- the states of fresh tables
 abbrev new : Shape → List ℕ
@@ -156,14 +157,14 @@ module _ {s : Shape} (m : Limits s) where
   new-calls = every-of (s .threads) _ (λ t h. rw (no-call t) (closed-kept s 0))
 
   new-hands :
-      (st stage : ℕ) → eqb FREE st ≡ false → eqb NOEXIST st ≡ false → eqb 0 stage ≡ false →
-      oneToOne st stage s (new s) (replicate (CELLS * s .threads) 0) ≡ true
+      (st : ℕ) (test : Call → Bool) → eqb FREE st ≡ false → eqb NOEXIST st ≡ false → test closed ≡ false →
+      oneToOne st test s (new s) (replicate (CELLS * s .threads) 0) ≡ true
   unfolding oneToOne
-  new-hands st stage e f n =
+  new-hands st test e f n =
       every-of (s .levels) _ (λ l i.
       every-of (count s l) _ (λ b h.
       rw (
-        tally-fails (s .threads) (λ t. inHand stage l b (callOf (replicate (CELLS * s .threads) 0) t))
+        tally-fails (s .threads) (λ t. inHand test l b (callOf (replicate (CELLS * s .threads) 0) t))
             (λ t k. rw (no-call t, n)),
         new-test (λ x. eqb x st) false e f (place s l b) (place-inside s l b i h),
       )))
@@ -204,10 +205,13 @@ fresh-kept {s} m =
             long = length-replicate (CELLS * s .threads) 0;
             queueLong = length-replicate (s .threads + 1) 0;
             kept = new-calls m;
-            allocating = new-hands m ALLOCATING DIVIDING refl refl refl;
-            freeing = new-hands m FREEING RELEASING refl refl refl;
             ends = new-ended m;
             waiters = new-queue m;
             running = refl;
+          };
+      hands =
+          record {
+            allocating = new-hands m ALLOCATING dividing refl refl refl;
+            freeing = new-hands m FREEING releasing refl refl refl;
           };
     }

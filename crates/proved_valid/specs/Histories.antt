@@ -12,6 +12,7 @@ use Rattle.shape.specs.Time.{wait, wait-most}
 use Rattle.rules.specs.declared.Call.{Call}
 use Rattle.rules.specs.Tables.{State, lengths, fresh}
 use Rattle.rules.specs.Steps.{Outcome}
+use Rattle.rules.specs.Refusals.{fitting}
 use Rattle.rules.specs.Calls.{build}
 use Rattle.facts.specs.Lines.{Sound}
 use Rattle.history.specs.History.{Step, Build, stepOn, runSteps}
@@ -47,7 +48,7 @@ go-on-kept g =
 each-kept : {s : Shape} {T : State} → Sound s T → EachStep (λ x (o : Outcome). Facts s (o .after)) s T
 each-kept {s} {T} k =
     record {
-      stays = λ x r e. facts k;
+      stays = λ x r e u. facts k;
       builds = λ a. fresh-kept (limits s a);
       asks = λ t size ms g o h. ask-kept g o size (wait ms) h (wait-most ms);
       goes = λ t g. go-on-kept g;
@@ -68,7 +69,7 @@ fresh-valid s a = sound-of a (fresh-kept (limits s a))
 
 -- so a build of tables with the right lengths leaves them sound, whatever they held
 pub build-valid : (s : Shape) (T : State) → allowed s ≡ true → lengths s T ≡ true → Sound s (stepOn s T Build .after)
-unfolding stepOn build
+unfolding stepOn build fitting
 build-valid s T a l = rw (a, l) (fresh-valid s a)
 
 -- a history leaves sound tables sound

@@ -1,4 +1,4 @@
--- The lines of `valid` and the lengths in two groups: what is said of a pool's tables alone, and what of the threads' tables.
+-- The lines of `valid` and the lengths in three groups: what is said of a pool's tables alone, what of the threads' tables, and what joins them.
 -- Assumes nothing.
 use mathlib.Core.Path.{_≡_}
 use mathlib.Core.Bool.{true}
@@ -14,7 +14,7 @@ use Rattle.rules.specs.declared.Device.{Device}
 use Rattle.rules.specs.Numbers.{FREEING, ALLOCATING, DIVIDING, RELEASING, CELLS}
 use Rattle.rules.specs.Tables.{State, lengths}
 use Rattle.rules.specs.Valid.{statesKnown, ownersKnown, topsExist, partsExist, deepestWhole, buddiesMerged, listEnds, freeListed, callsKept, oneToOne, queueEnds, waitersQueued, runningReady, valid}
-use Rattle.facts.specs.Lines.{Sound, ValidFacts, valid-facts}
+use Rattle.facts.specs.Lines.{Sound, ValidFacts, valid-facts, HandsFacts, facts-valid}
 use Rattle.facts.specs.Given.{LengthFacts, length-facts}
 
 pub record Pool (s : Shape) (states owners lists : List ℕ) : Type 0 where
@@ -30,19 +30,18 @@ pub record Pool (s : Shape) (states owners lists : List ℕ) : Type 0 where
   pub ends : listEnds s lists ≡ true
   pub listed : freeListed s states lists ≡ true
 
-pub record Threads (s : Shape) (states calls queue : List ℕ) (device : Device) : Type 0 where
+pub record Threads (s : Shape) (calls queue : List ℕ) (device : Device) : Type 0 where
   pub long : length calls ≡ CELLS * s .threads
   pub queueLong : length queue ≡ s .threads + 1
   pub kept : callsKept s (device .clock) calls ≡ true
-  pub allocating : oneToOne ALLOCATING DIVIDING s states calls ≡ true
-  pub freeing : oneToOne FREEING RELEASING s states calls ≡ true
   pub ends : queueEnds s queue ≡ true
   pub waiters : waitersQueued s calls queue ≡ true
   pub running : runningReady s calls device ≡ true
 
 pub record Facts (s : Shape) (T : State) : Type 0 where
-  pub pool : Pool s (T .states) (T .owners) (T .lists)
-  pub threads : Threads s (T .states) (T .calls) (T .queue) (T .device)
+  pub pool : Pool s (T .pool .states) (T .pool .owners) (T .pool .lists)
+  pub threads : Threads s (T .threads .calls) (T .threads .queue) (T .threads .device)
+  pub hands : HandsFacts s (T .pool .states) (T .threads .calls)
 
 pub facts : {s : Shape} {T : State} → Sound s T → Facts s T
 facts {s} {T} k = of (length-facts s T (k .lengths)) (valid-facts s T (k .valid))
@@ -55,26 +54,25 @@ facts {s} {T} k = of (length-facts s T (k .lengths)) (valid-facts s T (k .valid)
                 long = n .states;
                 ownersLong = n .owners;
                 listsLong = n .lists;
-                known = v .statesKnown;
-                owned = v .ownersKnown;
-                tops = v .topsExist;
-                parts = v .partsExist;
-                deepest = v .deepestWhole;
-                merged = v .buddiesMerged;
-                ends = v .listEnds;
-                listed = v .freeListed;
+                known = v .pool .statesKnown;
+                owned = v .pool .ownersKnown;
+                tops = v .pool .topsExist;
+                parts = v .pool .partsExist;
+                deepest = v .pool .deepestWhole;
+                merged = v .pool .buddiesMerged;
+                ends = v .pool .listEnds;
+                listed = v .pool .freeListed;
               };
           threads =
               record {
                 long = n .calls;
                 queueLong = n .queue;
-                kept = v .callsKept;
-                allocating = v .allocating;
-                freeing = v .freeing;
-                ends = v .queueEnds;
-                waiters = v .waitersQueued;
-                running = v .runningReady;
+                kept = v .threads .callsKept;
+                ends = v .threads .queueEnds;
+                waiters = v .threads .waitersQueued;
+                running = v .threads .runningReady;
               };
+          hands = v .hands;
         }
 
 -- and they are all that is said of them
@@ -89,18 +87,29 @@ lengths-of s T f =
     (eq-eqb _ _ (f .threads .queueLong))
 
 valid-of : (s : Shape) (T : State) → Facts s T → valid s T ≡ true
-unfolding valid
 valid-of s T f =
-    both-of _ _
-    (both-of _ _
-    (both-of _ _
-    (both-of _ _
-    (both-of _ _ (both-of _ _ (f .pool .known) (f .pool .owned))
-    (both-of _ _ (both-of _ _ (both-of _ _ (f .pool .tops) (f .pool .parts)) (f .pool .deepest)) (f .pool .merged)))
-    (both-of _ _ (f .pool .ends) (f .pool .listed)))
-    (f .threads .kept))
-    (both-of _ _ (f .threads .allocating) (f .threads .freeing)))
-    (both-of _ _ (both-of _ _ (f .threads .ends) (f .threads .waiters)) (f .threads .running))
+    facts-valid s T
+    (record {
+      pool =
+          record {
+            statesKnown = f .pool .known;
+            listEnds = f .pool .ends;
+            topsExist = f .pool .tops;
+            partsExist = f .pool .parts;
+            deepestWhole = f .pool .deepest;
+            buddiesMerged = f .pool .merged;
+            freeListed = f .pool .listed;
+            ownersKnown = f .pool .owned;
+          };
+      threads =
+          record {
+            queueEnds = f .threads .ends;
+            callsKept = f .threads .kept;
+            waitersQueued = f .threads .waiters;
+            runningReady = f .threads .running;
+          };
+      hands = f .hands;
+    })
 
 pub sound-of : {s : Shape} {T : State} → allowed s ≡ true → Facts s T → Sound s T
 sound-of {s} {T} a f = record { shape = a; lengths = lengths-of s T f; valid = valid-of s T f }

@@ -23,7 +23,7 @@ use Rattle.shape.specs.Sections.{levels-apart, parent-inside}
 use Rattle.rules.specs.declared.Call.{Call}
 use Rattle.rules.specs.Numbers.{ALLOCATED, FREE, DIVIDED, NOEXIST, FREEING, ALLOCATING, DIVIDING, RELEASING}
 use Rattle.rules.specs.Tables.{State, state, stateAt, freeList, putList, putCall}
-use Rattle.rules.specs.Valid.{usesBlock, inHand}
+use Rattle.rules.specs.Valid.{usesBlock, inHand, dividing, releasing}
 use Rattle.rules.specs.Steps.{holding, firstBuddy, merges, mergeStep}
 use Rattle.facts.specs.Stage.{merging}
 use Rattle.facts.specs.Running.{Running, uses-block, hand-placed, freeing}
@@ -54,22 +54,22 @@ without s b xs = keep (λ x. not (eqb (x / parts s) b)) xs
 -- what a merge leaves, with the block in hand of level m and its parent of level l
 abbrev merged : Shape → State → ℕ → Call → ℕ → ℕ → State
 merged s T t c m l =
-    state (set (sets (T .states) (place s m (firstBuddy s (c .block))) (gone s)) (place s l (parent s c)) FREEING) (T .owners)
-    (putList s (T .lists) m (without s (parent s c) (freeList s (T .lists) m)))
-    (putCall (T .calls) t (holding RELEASING 0 l (parent s c)))
-    (T .queue)
-    (T .device)
+    state (set (sets (T .pool .states) (place s m (firstBuddy s (c .block))) (gone s)) (place s l (parent s c)) FREEING) (T .pool .owners)
+    (putList s (T .pool .lists) m (without s (parent s c) (freeList s (T .pool .lists) m)))
+    (putCall (T .threads .calls) t (holding RELEASING 0 l (parent s c)))
+    (T .threads .queue)
+    (T .threads .device)
 
 -- part j of the parent is the block in hand, which is FREEING, or FREE
 abbrev Buddy : Shape → State → Call → ℕ → ℕ → Type 0
 Buddy s T c l j =
-    ((parts s * parent s c + j ≡ c .block) × (stateAt s (T .states) (l + 1) (parts s * parent s c + j) ≡ FREEING))
-    ⊎ ((parts s * parent s c + j ≡ c .block → ⊥) × (stateAt s (T .states) (l + 1) (parts s * parent s c + j) ≡ FREE))
+    ((parts s * parent s c + j ≡ c .block) × (stateAt s (T .pool .states) (l + 1) (parts s * parent s c + j) ≡ FREEING))
+    ⊎ ((parts s * parent s c + j ≡ c .block → ⊥) × (stateAt s (T .pool .states) (l + 1) (parts s * parent s c + j) ≡ FREE))
 
 module _ {s : Shape} {T : State} {t : ℕ} {c : Call} (g : Running s T t c) (e : c .stage ≡ RELEASING) (l : ℕ) (q : c .level ≡ l + 1)
     (free :
     every (parts s) (λ j.
-    eqb (firstBuddy s (c .block) + j) (c .block) || eqb (stateAt s (T .states) (c .level) (firstBuddy s (c .block) + j)) FREE)
+    eqb (firstBuddy s (c .block) + j) (c .block) || eqb (stateAt s (T .pool .states) (c .level) (firstBuddy s (c .block) + j)) FREE)
     ≡ true) where
   used : usesBlock c ≡ true
   used = uses-block c RELEASING e
@@ -77,10 +77,10 @@ module _ {s : Shape} {T : State} {t : ℕ} {c : Call} (g : Running s T t c) (e :
   mine : c .block < count s (l + 1)
   mine = rw q at (hand-placed g used .1)
 
-  own : stateAt s (T .states) (l + 1) (c .block) ≡ FREEING
+  own : stateAt s (T .pool .states) (l + 1) (c .block) ≡ FREEING
   own = rw q at (freeing g e)
 
-  parted : Family s (T .states) l (parent s c) (gone s)
+  parted : Family s (T .pool .states) l (parent s c) (gone s)
   parted =
       let n : l + 1 - 1 ≡ l = omega arith in
       record {
@@ -90,8 +90,8 @@ module _ {s : Shape} {T : State} {t : ℕ} {c : Call} (g : Running s T t c) (e :
         wide = length-replicate (parts s) NOEXIST;
       }
 
-  was : stateAt s (T .states) l (parent s c) ≡ DIVIDED
-  was = merging s (T .states) (facts (g .sound) .pool .parts) l (l + 1) (c .block) refl (parted .level) mine own (rw q at free) .0
+  was : stateAt s (T .pool .states) l (parent s c) ≡ DIVIDED
+  was = merging s (T .pool .states) (facts (g .sound) .pool .parts) l (l + 1) (c .block) refl (parted .level) mine own (rw q at free) .0
 
   buddy : (j : ℕ) → j < parts s → Buddy s T c l j
   buddy j h = go (ℕ-discrete (firstBuddy s (c .block) + j) (c .block)) (either _ _ (every-at (parts s) _ (rw q at free) j h))
@@ -99,37 +99,37 @@ module _ {s : Shape} {T : State} {t : ℕ} {c : Call} (g : Running s T t c) (e :
       go :
           Dec (firstBuddy s (c .block) + j ≡ c .block) →
           (eqb (firstBuddy s (c .block) + j) (c .block) ≡ true)
-          ⊎ (eqb (stateAt s (T .states) (l + 1) (firstBuddy s (c .block) + j)) FREE ≡ true) →
+          ⊎ (eqb (stateAt s (T .pool .states) (l + 1) (firstBuddy s (c .block) + j)) FREE ≡ true) →
           Buddy s T c l j
-      go (yes p) f = inl (p, ap (λ (n : ℕ). stateAt s (T .states) (l + 1) n) p ∙ own)
+      go (yes p) f = inl (p, ap (λ (n : ℕ). stateAt s (T .pool .states) (l + 1) n) p ∙ own)
       go (no p) (inl f) = absurd (p (eqb-true _ _ f))
       go (no p) (inr f) = inr (p, eqb-true _ _ f)
 
   -- a test that tells neither FREE nor FREEING from what doesn't exist
   part-test :
       (τ : ℕ → Bool) → τ NOEXIST ≡ τ FREEING → τ NOEXIST ≡ τ FREE → (j : ℕ) → j < parts s →
-      τ (getD (gone s) j 0) ≡ τ (stateAt s (T .states) (l + 1) (parts s * parent s c + j))
+      τ (getD (gone s) j 0) ≡ τ (stateAt s (T .pool .states) (l + 1) (parts s * parent s c + j))
   part-test τ x y j h = ap τ (gone-at s j h) ∙ go (buddy j h)
     where
-      go : Buddy s T c l j → τ NOEXIST ≡ τ (stateAt s (T .states) (l + 1) (parts s * parent s c + j))
+      go : Buddy s T c l j → τ NOEXIST ≡ τ (stateAt s (T .pool .states) (l + 1) (parts s * parent s c + j))
       go (inl w) = x ∙ ap τ (sym (w .1))
       go (inr w) = y ∙ ap τ (sym (w .1))
 
   alike-merge :
       (τ : ℕ → Bool) → τ FREEING ≡ τ DIVIDED → τ NOEXIST ≡ τ FREEING → τ NOEXIST ≡ τ FREE → (i : ℕ) →
-      τ (getD (family s (T .states) l (parent s c) FREEING (gone s)) i 0) ≡ τ (getD (T .states) i 0)
+      τ (getD (family s (T .pool .states) l (parent s c) FREEING (gone s)) i 0) ≡ τ (getD (T .pool .states) i 0)
   alike-merge τ x y z = family-alike parted FREEING τ (x ∙ ap τ (sym was)) (part-test τ y z)
 
   -- the buddies leave the list
-  relists : Relists s (T .lists) l (parent s c) (gone s) (without s (parent s c) (freeList s (T .lists) (l + 1)))
+  relists : Relists s (T .pool .lists) l (parent s c) (gone s) (without s (parent s c) (freeList s (T .pool .lists) (l + 1)))
   relists =
       record {
         part = λ j h.
-            times-keep _ (parts s * parent s c + j) (freeList s (T .lists) (l + 1))
+            times-keep _ (parts s * parent s c + j) (freeList s (T .pool .lists) (l + 1))
             ∙ rw (part-of (parts s) (parent s c) j h, eq-eqb (parent s c) _ refl, gone-at s j h);
-        rest = λ a h n. times-keep _ a (freeList s (T .lists) (l + 1)) ∙ rw (ne-eqb (a / parts s) (parent s c) n);
+        rest = λ a h n. times-keep _ a (freeList s (T .pool .lists) (l + 1)) ∙ rw (ne-eqb (a / parts s) (parent s c) n);
         others = λ a h.
-            times-keep _ a (freeList s (T .lists) (l + 1))
+            times-keep _ a (freeList s (T .pool .lists) (l + 1))
             ∙ ap (λ (n : ℕ). cond (not (eqb (a / parts s) (parent s c))) n 0)
             (listed-at (listing (facts (g .sound) .pool)) (l + 1) (parted .level) .others a h)
             ∙ cond-zero (not (eqb (a / parts s) (parent s c)));
@@ -137,37 +137,37 @@ module _ {s : Shape} {T : State} {t : ℕ} {c : Call} (g : Running s T t c) (e :
 
   -- the block leaves the hand, and its parent comes into it
   passed :
-      HandsPassed s (T .states) l (parent s c) FREEING (gone s) c (holding RELEASING 0 l (parent s c)) FREEING RELEASING
+      HandsPassed s (T .pool .states) l (parent s c) FREEING (gone s) c (holding RELEASING 0 l (parent s c)) FREEING releasing
   passed =
       record {
         here =
             rw (
               was,
-              hand-elsewhere RELEASING l (parent s c) c (λ x y. omega arith),
-              hand-there RELEASING l (parent s c) (holding RELEASING 0 l (parent s c)) refl refl refl,
+              hand-elsewhere releasing l (parent s c) c (λ x y. omega arith),
+              hand-there releasing l (parent s c) (holding RELEASING 0 l (parent s c)) refl refl refl,
             );
         part = λ j h.
             rw (
               gone-at s j h,
-              hand-elsewhere RELEASING (l + 1) (parts s * parent s c + j) (holding RELEASING 0 l (parent s c))
+              hand-elsewhere releasing (l + 1) (parts s * parent s c + j) (holding RELEASING 0 l (parent s c))
                   (λ x y. omega arith),
             )
             (part j (buddy j h));
         rest = λ m a d.
-            hand-elsewhere RELEASING m a c (λ x y. d .1 (sym x ∙ q) (ap (λ (n : ℕ). n / parts s) (sym y)))
-            ∙ sym (hand-elsewhere RELEASING m a (holding RELEASING 0 l (parent s c)) (λ x y. d .0 (sym x) (sym y)));
+            hand-elsewhere releasing m a c (λ x y. d .1 (sym x ∙ q) (ap (λ (n : ℕ). n / parts s) (sym y)))
+            ∙ sym (hand-elsewhere releasing m a (holding RELEASING 0 l (parent s c)) (λ x y. d .0 (sym x) (sym y)));
       }
     where
       part :
           (j : ℕ) → Buddy s T c l j →
-          0 + bit (inHand RELEASING (l + 1) (parts s * parent s c + j) c)
-          ≡ bit (eqb (stateAt s (T .states) (l + 1) (parts s * parent s c + j)) FREEING) + 0
-      part j (inl w) = rw (w .1, hand-there RELEASING (l + 1) (parts s * parent s c + j) c e q (sym (w .0)))
-      part j (inr w) = rw (w .1, hand-elsewhere RELEASING (l + 1) (parts s * parent s c + j) c (λ x y. w .0 (sym y)))
+          0 + bit (inHand releasing (l + 1) (parts s * parent s c + j) c)
+          ≡ bit (eqb (stateAt s (T .pool .states) (l + 1) (parts s * parent s c + j)) FREEING) + 0
+      part j (inl w) = rw (w .1, hand-there releasing (l + 1) (parts s * parent s c + j) c (eq-eqb _ _ e) q (sym (w .0)))
+      part j (inr w) = rw (w .1, hand-elsewhere releasing (l + 1) (parts s * parent s c + j) c (λ x y. w .0 (sym y)))
 
   merged-below : Facts s (merged s T t c (l + 1) l)
   merged-below =
-      rw (set-before (place s (l + 1) (firstBuddy s (c .block))) (place s l (parent s c)) FREEING (T .states) (gone s)
+      rw (set-before (place s (l + 1) (firstBuddy s (c .block))) (place s l (parent s c)) FREEING (T .pool .states) (gone s)
       (omega (arith, parted .block, levels-apart s l (l + 1) (omega arith))))
       (family-kept g
       (record {
@@ -180,21 +180,24 @@ module _ {s : Shape} {T : State} {t : ℕ} {c : Call} (g : Running s T t c) (e :
         free = ap (λ (x : ℕ). eqb x FREE) (sym was);
         unmerged = every-not (parts s) _ 0 (parts-pos s) (ap (λ (x : ℕ). eqb x FREE) (gone-at s 0 (parts-pos s)));
         listing = listing-family parted FREEING (listing (facts (g .sound) .pool)) relists (ap (λ (x : ℕ). eqb x FREE) (sym was));
-        allocating =
-            hands-after g ALLOCATING DIVIDING (holding RELEASING 0 l (parent s c)) _ (facts (g .sound) .threads .allocating)
-            (λ m a i h.
-            rw (
-              alike-merge (λ x. eqb x ALLOCATING) refl refl refl (place s m a),
-              not-in-hand DIVIDING m a c (λ x. omega arith),
-            ));
-        freeing = hands-family g parted passed (facts (g .sound) .threads .freeing);
+        hands =
+            record {
+              allocating =
+                  hands-after g ALLOCATING dividing (holding RELEASING 0 l (parent s c)) _ (facts (g .sound) .hands .allocating)
+                  (λ m a i h.
+                  rw (
+                    alike-merge (λ x. eqb x ALLOCATING) refl refl refl (place s m a),
+                    not-in-hand dividing m a c (rw e),
+                  ));
+              freeing = hands-family g parted passed (facts (g .sound) .hands .freeing);
+            };
         ready = λ n. omega arith;
-        kept = releasing-kept s (T .device .clock) l (parent s c) (omega (arith, parted .level)) (parted .block);
+        kept = releasing-kept s (T .threads .device .clock) l (parent s c) (omega (arith, parted .level)) (parted .block);
       }))
 
 pub merge-kept :
     {s : Shape} {T : State} {t : ℕ} {c : Call} → Running s T t c → c .stage ≡ RELEASING →
-    merges s (T .states) (c .level) (c .block) ≡ true → Facts s (mergeStep s T t c .after)
+    merges s (T .pool .states) (c .level) (c .block) ≡ true → Facts s (mergeStep s T t c .after)
 unfolding mergeStep merges
 merge-kept {s} {T} {t} {c} g e k =
     subst (λ (m : ℕ). Facts s (merged s T t c m (c .level - 1))) (sym below)

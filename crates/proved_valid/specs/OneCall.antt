@@ -23,13 +23,13 @@ use Rattle.rules.specs.Tables.{stateAt, callOf, cells, putCall}
 use Rattle.rules.specs.Valid.{inHand, oneToOne, callKept, callsKept, runningReady}
 use Rattle.facts.specs.Call.{callOf-putCall, callOf-putCall-other}
 
--- a call at another stage has no block in hand for this one
-pub not-in-hand : (stage l b : ℕ) (c : Call) → (c .stage ≡ stage → ⊥) → inHand stage l b c ≡ false
-not-in-hand stage l b c n = rw (ne-eqb _ _ n)
+-- a call that fails the test has no block in hand for it
+pub not-in-hand : (test : Call → Bool) (l b : ℕ) (c : Call) → test c ≡ false → inHand test l b c ≡ false
+not-in-hand test l b c n = rw n
 
 -- nor has one whose block in hand is another
-pub hand-elsewhere : (stage l b : ℕ) (c : Call) → (c .level ≡ l → c .block ≡ b → ⊥) → inHand stage l b c ≡ false
-hand-elsewhere stage l b c n = go (eqb (c .stage) stage) (ℕ-discrete (c .level) l) (ℕ-discrete (c .block) b)
+pub hand-elsewhere : (test : Call → Bool) (l b : ℕ) (c : Call) → (c .level ≡ l → c .block ≡ b → ⊥) → inHand test l b c ≡ false
+hand-elsewhere test l b c n = go (test c) (ℕ-discrete (c .level) l) (ℕ-discrete (c .block) b)
   where
     go : (x : Bool) → Dec (c .level ≡ l) → Dec (c .block ≡ b) → (x && eqb (c .level) l && eqb (c .block) b) ≡ false
     go false p q = refl
@@ -38,8 +38,8 @@ hand-elsewhere stage l b c n = go (eqb (c .stage) stage) (ℕ-discrete (c .level
     go true (yes p) (yes q) = absurd (n p q)
 
 pub hand-there :
-    (stage l b : ℕ) (c : Call) → c .stage ≡ stage → c .level ≡ l → c .block ≡ b → inHand stage l b c ≡ true
-hand-there stage l b c e f g = rw (eq-eqb _ _ e, eq-eqb _ _ f, eq-eqb _ _ g)
+    (test : Call → Bool) (l b : ℕ) (c : Call) → test c ≡ true → c .level ≡ l → c .block ≡ b → inHand test l b c ≡ true
+hand-there test l b c e f g = rw (e, eq-eqb _ _ f, eq-eqb _ _ g)
 
 -- a thread that isn't blocked may run
 pub running-of :
@@ -98,20 +98,20 @@ module _ (s : Shape) (calls : List ℕ) (t : ℕ) (c : Call) (long : length call
 
   -- blocks stay one to one to calls where the state and the call change together
   pub hands-put :
-      (st stage : ℕ) (before after : List ℕ) → oneToOne st stage s before calls ≡ true →
+      (st : ℕ) (test : Call → Bool) (before after : List ℕ) → oneToOne st test s before calls ≡ true →
       ((l b : ℕ) → l < s .levels → b < count s l →
-      bit (eqb (stateAt s after l b) st) + bit (inHand stage l b (callOf calls t))
-      ≡ bit (eqb (stateAt s before l b) st) + bit (inHand stage l b c)) →
-      oneToOne st stage s after (putCall calls t c) ≡ true
+      bit (eqb (stateAt s after l b) st) + bit (inHand test l b (callOf calls t))
+      ≡ bit (eqb (stateAt s before l b) st) + bit (inHand test l b c)) →
+      oneToOne st test s after (putCall calls t c) ≡ true
   unfolding oneToOne
-  hands-put st stage before after e k =
+  hands-put st test before after e k =
       every-of (s .levels) _ (λ l i. every-of (count s l) _ (λ b j. eq-eqb _ _ (at l b i j)))
     where
       hand : ℕ → ℕ → ℕ → Bool
-      hand l b u = inHand stage l b (callOf calls u)
+      hand l b u = inHand test l b (callOf calls u)
 
       after-hand : ℕ → ℕ → ℕ → Bool
-      after-hand l b u = inHand stage l b (callOf (putCall calls t c) u)
+      after-hand l b u = inHand test l b (callOf (putCall calls t c) u)
 
       was : (l b : ℕ) → l < s .levels → b < count s l → tally (s .threads) (hand l b) ≡ bit (eqb (stateAt s before l b) st)
       was l b i j = eqb-true _ _ (every-at (count s l) _ (every-at (s .levels) _ e l i) b j)
@@ -123,8 +123,8 @@ module _ (s : Shape) (calls : List ℕ) (t : ℕ) (c : Call) (long : length call
           omega (
             arith,
             tally-one (s .threads) t (hand l b) (after-hand l b) h
-                (λ u m d. ap (inHand stage l b) (sym (callOf-putCall-other calls t u c d))),
+                (λ u m d. ap (inHand test l b) (sym (callOf-putCall-other calls t u c d))),
             was l b i j,
             k l b i j,
-            ap (λ (d : Call). bit (inHand stage l b d)) put-mine,
+            ap (λ (d : Call). bit (inHand test l b d)) put-mine,
           )

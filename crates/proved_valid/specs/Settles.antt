@@ -82,21 +82,21 @@ module _ (s : Shape) (states : List ℕ) (l b : ℕ) (h : b < count s l) where
       at m a i k (no p) q = others m a i k (λ j r w x. p w)
 
 module _ {s : Shape} {T : State} {t : ℕ} {c : Call} (g : Running s T t c) (e : c .stage ≡ RELEASING)
-    (n : merges s (T .states) (c .level) (c .block) ≡ false) where
-  stands : Stands s (T .states) (c .level) (c .block) FREEING
+    (n : merges s (T .pool .states) (c .level) (c .block) ≡ false) where
+  stands : Stands s (T .pool .states) (c .level) (c .block) FREEING
   stands = hand-stands g FREEING (uses-block c RELEASING e) (freeing g e)
 
   -- the list with the block at its end names the blocks that are FREE now
   longer :
-      Lists s (turn s (T .states) (c .level) (c .block) FREE) (c .level)
-      (freeList s (T .lists) (c .level) ++ (c .block ∷ []))
+      Lists s (turn s (T .pool .states) (c .level) (c .block) FREE) (c .level)
+      (freeList s (T .pool .lists) (c .level) ++ (c .block ∷ []))
   longer =
       record {
         each = λ a h.
             omega (
               arith,
               here .each a h,
-              times-append a (freeList s (T .lists) (c .level)) (c .block ∷ []),
+              times-append a (freeList s (T .pool .lists) (c .level)) (c .block ∷ []),
               times-one a (c .block),
               count-turn stands FREE (λ n. eqb n FREE) (place s (c .level) a),
               ap bit (level-eqb s (c .level) a (c .block)),
@@ -105,27 +105,27 @@ module _ {s : Shape} {T : State} {t : ℕ} {c : Call} (g : Running s T t c) (e :
             omega (
               arith,
               here .others a h,
-              times-append a (freeList s (T .lists) (c .level)) (c .block ∷ []),
+              times-append a (freeList s (T .pool .lists) (c .level)) (c .block ∷ []),
               times-one a (c .block) ∙ ap bit (ne-eqb a (c .block) (omega (arith, stands .block))),
             );
       }
     where
-      here : Lists s (T .states) (c .level) (freeList s (T .lists) (c .level))
+      here : Lists s (T .pool .states) (c .level) (freeList s (T .pool .lists) (c .level))
       here = listed-at (listing (facts (g .sound) .pool)) (c .level) (stands .level)
 
   freed :
-      Turn s T c closed (c .level) (c .block) FREEING FREE (T .owners)
-      (putList s (T .lists) (c .level) (freeList s (T .lists) (c .level) ++ (c .block ∷ [])))
+      Turn s T c closed (c .level) (c .block) FREEING FREE (T .pool .owners)
+      (putList s (T .pool .lists) (c .level) (freeList s (T .pool .lists) (c .level) ++ (c .block ∷ [])))
   freed =
       record {
         stands = stands;
         known = refl;
         exists = refl;
         undivided = refl;
-        merged = merged-settled s (T .states) (c .level) (c .block) (stands .block) n (facts (g .sound) .pool .merged);
+        merged = merged-settled s (T .pool .states) (c .level) (c .block) (stands .block) n (facts (g .sound) .pool .merged);
         ownersLong = facts (g .sound) .pool .ownersLong;
         owned =
-            owners-alike s (T .states) _ (T .owners) (alike-turn stands FREE (λ n. eqb n ALLOCATED) refl)
+            owners-alike s (T .pool .states) _ (T .pool .owners) (alike-turn stands FREE (λ n. eqb n ALLOCATED) refl)
             (facts (g .sound) .pool .owned);
         listing =
             listing-put (listing (facts (g .sound) .pool)) (stands .level) longer
@@ -135,11 +135,11 @@ module _ {s : Shape} {T : State} {t : ℕ} {c : Call} (g : Running s T t c) (e :
         dividing = (ap (λ (n : ℕ). eqb n DIVIDING) e, refl);
         releasing = (ap (λ (n : ℕ). eqb n RELEASING) e, refl);
         ready = λ n. omega arith;
-        kept = closed-kept s (T .device .clock);
+        kept = closed-kept s (T .threads .device .clock);
       }
 
   pub settle-kept : Facts s (settleStep s T t c .after)
   unfolding settleStep
   settle-kept =
-      rw (keep-every (queueOf (T .queue)), keep-nothing (queueOf (T .queue))) at
-      (wakes-kept (turned g freed) (λ _. true) (T .device .clock) (le-refl _) (λ u h w d q. absurd (true≢false q)))
+      rw (keep-every (queueOf (T .threads .queue)), keep-nothing (queueOf (T .threads .queue))) at
+      (wakes-kept (turned g freed) (λ _. true) (T .threads .device .clock) (le-refl _) (λ u h w d q. absurd (true≢false q)))

@@ -10,7 +10,7 @@ use native.Mathlib.Decide.{decLt}
 use native.Mathlib.Omega.{arith}
 use lib.ListN.{length, getD, replicate, length-replicate, getD-replicate}
 use lib.Dec.{leb, eqb}
-use borrow.Author.Tests.{leb-true}
+use borrow.Author.Tests.{leb-true, eq-eqb, ne-eqb}
 use Rattle.laws.specs.Tests.{bit, every-not}
 use Rattle.laws.specs.Lists.{times, upFrom}
 use Rattle.laws.specs.Times.{times-append}
@@ -23,7 +23,7 @@ use Rattle.shape.specs.Sections.{part-inside}
 use Rattle.rules.specs.declared.Call.{Call}
 use Rattle.rules.specs.Numbers.{ALLOCATED, FREE, DIVIDED, NOEXIST, FREEING, ALLOCATING, DIVIDING, RELEASING}
 use Rattle.rules.specs.Tables.{State, stateAt, freeList}
-use Rattle.rules.specs.Valid.{usesBlock, inHand, sizeKept}
+use Rattle.rules.specs.Valid.{usesBlock, inHand, sizeKept, dividing, releasing}
 use Rattle.rules.specs.Steps.{holding, splitStep}
 use Rattle.facts.specs.Given.{parts-none}
 use Rattle.facts.specs.Running.{Running, own-facts, uses-block, hand-placed, allocating}
@@ -65,7 +65,7 @@ module _ {s : Shape} {T : State} {t : ℕ} {c : Call} (g : Running s T t c) (e :
   target : c .level + 1 ≤ levelFor s (c .size)
   target = omega arith
 
-  parted : Family s (T .states) (c .level) (c .block) (split s)
+  parted : Family s (T .pool .states) (c .level) (c .block) (split s)
   parted =
       record {
         long = facts (g .sound) .pool .long;
@@ -74,37 +74,37 @@ module _ {s : Shape} {T : State} {t : ℕ} {c : Call} (g : Running s T t c) (e :
         wide = split-wide s;
       }
 
-  was : stateAt s (T .states) (c .level) (c .block) ≡ ALLOCATING
+  was : stateAt s (T .pool .states) (c .level) (c .block) ≡ ALLOCATING
   was = allocating g e
 
-  none : (j : ℕ) → j < parts s → stateAt s (T .states) (c .level + 1) (parts s * c .block + j) ≡ NOEXIST
+  none : (j : ℕ) → j < parts s → stateAt s (T .pool .states) (c .level + 1) (parts s * c .block + j) ≡ NOEXIST
   none j h =
-      parts-none s (T .states) (facts (g .sound) .pool .parts) (c .level) (c .block) j (parted .level) (parted .block) h
+      parts-none s (T .pool .states) (facts (g .sound) .pool .parts) (c .level) (c .block) j (parted .level) (parted .block) h
       (λ q. omega (arith, was))
 
   alike-split :
       (τ : ℕ → Bool) → τ DIVIDED ≡ τ ALLOCATING → τ ALLOCATING ≡ τ NOEXIST → τ FREE ≡ τ NOEXIST → (i : ℕ) →
-      τ (getD (family s (T .states) (c .level) (c .block) DIVIDED (split s)) i 0) ≡ τ (getD (T .states) i 0)
+      τ (getD (family s (T .pool .states) (c .level) (c .block) DIVIDED (split s)) i 0) ≡ τ (getD (T .pool .states) i 0)
   alike-split τ p q r =
       family-alike parted DIVIDED τ (p ∙ ap τ (sym was))
       (λ j h. split-test s τ (τ NOEXIST) q r j h ∙ ap τ (sym (none j h)))
 
   -- the parts behind the first join the list
   relists :
-      Relists s (T .lists) (c .level) (c .block) (split s)
-      (freeList s (T .lists) (c .level + 1) ++ upFrom (parts s * c .block + 1) (parts s - 1))
+      Relists s (T .pool .lists) (c .level) (c .block) (split s)
+      (freeList s (T .pool .lists) (c .level + 1) ++ upFrom (parts s * c .block + 1) (parts s - 1))
   relists =
       record {
-        part = λ j h. times-append (parts s * c .block + j) (freeList s (T .lists) (c .level + 1)) _ ∙ part j h;
+        part = λ j h. times-append (parts s * c .block + j) (freeList s (T .pool .lists) (c .level + 1)) _ ∙ part j h;
         rest = λ a h n.
-            times-append a (freeList s (T .lists) (c .level + 1)) _
+            times-append a (freeList s (T .pool .lists) (c .level + 1)) _
             ∙ omega (arith, outside a (apart a n (decLt a (parts s * c .block + 1)) (decLt a (parts s * c .block + parts s))));
         others = λ a h.
-            times-append a (freeList s (T .lists) (c .level + 1)) _
+            times-append a (freeList s (T .pool .lists) (c .level + 1)) _
             ∙ omega (arith, here .others a h, outside a (inr (behind a h)));
       }
     where
-      here : Lists s (T .states) (c .level + 1) (freeList s (T .lists) (c .level + 1))
+      here : Lists s (T .pool .states) (c .level + 1) (freeList s (T .pool .lists) (c .level + 1))
       here = listed-at (listing (facts (g .sound) .pool)) (c .level + 1) (parted .level)
 
       outside :
@@ -130,14 +130,14 @@ module _ {s : Shape} {T : State} {t : ℕ} {c : Call} (g : Running s T t c) (e :
           absurd
           (n (ap (λ (x : ℕ). x / parts s) w ∙ part-of (parts s) (c .block) (a - parts s * c .block) (omega arith)))
 
-      unlisted : (j : ℕ) → j < parts s → times (parts s * c .block + j) (freeList s (T .lists) (c .level + 1)) ≡ 0
+      unlisted : (j : ℕ) → j < parts s → times (parts s * c .block + j) (freeList s (T .pool .lists) (c .level + 1)) ≡ 0
       unlisted j h =
           here .each (parts s * c .block + j) (part-inside s (c .level) (c .block) j (parted .block) h)
           ∙ ap (λ (x : ℕ). bit (eqb x FREE)) (none j h)
 
       part :
           (j : ℕ) → j < parts s →
-          times (parts s * c .block + j) (freeList s (T .lists) (c .level + 1))
+          times (parts s * c .block + j) (freeList s (T .pool .lists) (c .level + 1))
           + times (parts s * c .block + j) (upFrom (parts s * c .block + 1) (parts s - 1))
           ≡ bit (eqb (getD (split s) j 0) FREE)
       part zero h = omega (arith, unlisted 0 h, outside (parts s * c .block + 0) (inl (omega arith)))
@@ -150,33 +150,33 @@ module _ {s : Shape} {T : State} {t : ℕ} {c : Call} (g : Running s T t c) (e :
           )
 
   -- the block leaves the hand, and its first part comes into it
-  passed : HandsPassed s (T .states) (c .level) (c .block) DIVIDED (split s) c (first s c) ALLOCATING DIVIDING
+  passed : HandsPassed s (T .pool .states) (c .level) (c .block) DIVIDED (split s) c (first s c) ALLOCATING dividing
   passed =
       record {
         here =
             rw (
               was,
-              hand-there DIVIDING (c .level) (c .block) c e refl refl,
-              hand-elsewhere DIVIDING (c .level) (c .block) (first s c) (λ p q. omega arith),
+              hand-there dividing (c .level) (c .block) c (eq-eqb _ _ e) refl refl,
+              hand-elsewhere dividing (c .level) (c .block) (first s c) (λ p q. omega arith),
             );
         part = λ j h.
-            rw (none j h, hand-elsewhere DIVIDING (c .level + 1) (parts s * c .block + j) c (λ p q. omega arith)) (part j h);
+            rw (none j h, hand-elsewhere dividing (c .level + 1) (parts s * c .block + j) c (λ p q. omega arith)) (part j h);
         rest = λ m a d.
-            hand-elsewhere DIVIDING m a c (λ p q. d .0 (sym p) (sym q))
+            hand-elsewhere dividing m a c (λ p q. d .0 (sym p) (sym q))
             ∙ sym
-            (hand-elsewhere DIVIDING m a (first s c)
+            (hand-elsewhere dividing m a (first s c)
             (λ p q. d .1 (sym p) (ap (λ (x : ℕ). x / parts s) (sym q) ∙ mul-div-right (c .block) (parts-pos s))));
       }
     where
       part :
           (j : ℕ) → j < parts s →
           bit (eqb (getD (split s) j 0) ALLOCATING) + 0
-          ≡ 0 + bit (inHand DIVIDING (c .level + 1) (parts s * c .block + j) (first s c))
-      part zero h = rw (hand-there DIVIDING (c .level + 1) (parts s * c .block + 0) (first s c) refl refl (omega arith))
+          ≡ 0 + bit (inHand dividing (c .level + 1) (parts s * c .block + j) (first s c))
+      part zero h = rw (hand-there dividing (c .level + 1) (parts s * c .block + 0) (first s c) refl refl (omega arith))
       part (suc j) h =
           rw (
             split-later s j h,
-            hand-elsewhere DIVIDING (c .level + 1) (parts s * c .block + suc j) (first s c) (λ p q. omega arith),
+            hand-elsewhere dividing (c .level + 1) (parts s * c .block + suc j) (first s c) (λ p q. omega arith),
           )
 
   pub split-kept : Facts s (splitStep s T t c .after)
@@ -194,17 +194,20 @@ module _ {s : Shape} {T : State} {t : ℕ} {c : Call} (g : Running s T t c) (e :
         free = ap (λ (x : ℕ). eqb x FREE) (sym was);
         unmerged = every-not (parts s) _ 0 (parts-pos s) refl;
         listing = listing-family parted DIVIDED (listing (facts (g .sound) .pool)) relists (ap (λ (x : ℕ). eqb x FREE) (sym was));
-        allocating = hands-family g parted passed (facts (g .sound) .threads .allocating);
-        freeing =
-            hands-after g FREEING RELEASING (first s c) _ (facts (g .sound) .threads .freeing)
-            (λ m a i h.
-            rw (
-              alike-split (λ x. eqb x FREEING) refl refl refl (place s m a),
-              not-in-hand RELEASING m a c (λ p. omega arith),
-            ));
+        hands =
+            record {
+              allocating = hands-family g parted passed (facts (g .sound) .hands .allocating);
+              freeing =
+                  hands-after g FREEING releasing (first s c) _ (facts (g .sound) .hands .freeing)
+                  (λ m a i h.
+                  rw (
+                    alike-split (λ x. eqb x FREEING) refl refl refl (place s m a),
+                    not-in-hand releasing m a c (rw e),
+                  ));
+            };
         ready = λ n. omega arith;
         kept =
-            dividing-kept s (T .device .clock) (c .size) (c .level + 1) (parts s * c .block) (parted .level)
+            dividing-kept s (T .threads .device .clock) (c .size) (c .level + 1) (parts s * c .block) (parted .level)
             (omega (arith, part-inside s (c .level) (c .block) 0 (parted .block) (parts-pos s)))
             target
             (leb-true _ _ (own-facts g .size));

@@ -36,17 +36,17 @@ module _ {s : Shape} {T : State} {t : ℕ} {c : Call} (g : Running s T t c) (e :
   unfolding foundKept
   target = leb-true _ _ (implied (eqb (c .stage) FOUND) _ (own-facts g .found) (eq-eqb _ _ e))
 
-  module _ (b : ℕ) (bs : List ℕ) (q : freeList s (T .lists) (c .level) ≡ b ∷ bs) where
-    here : Lists s (T .states) (c .level) (b ∷ bs)
+  module _ (b : ℕ) (bs : List ℕ) (q : freeList s (T .pool .lists) (c .level) ≡ b ∷ bs) where
+    here : Lists s (T .pool .states) (c .level) (b ∷ bs)
     here = rw q at (listed-at (listing (facts (g .sound) .pool)) (c .level) level)
 
-    first : Stands s (T .states) (c .level) b FREE
+    first : Stands s (T .pool .states) (c .level) b FREE
     first =
         record {
           long = facts (g .sound) .pool .long;
           level = level;
           block = inside (decLt b (count s (c .level)));
-          was = listed-free s (T .states) (T .lists) (facts (g .sound) .pool .listed) (c .level) b bs level q;
+          was = listed-free s (T .pool .states) (T .pool .lists) (facts (g .sound) .pool .listed) (c .level) b bs level q;
         }
       where
         inside : Dec (b < count s (c .level)) → b < count s (c .level)
@@ -54,7 +54,7 @@ module _ {s : Shape} {T : State} {t : ℕ} {c : Call} (g : Running s T t c) (e :
         inside (no h) = absurd (omega (arith, here .others b (omega arith), times-cons b b bs, ap bit (eq-eqb b b refl)))
 
     -- the rest of the list names the blocks that are still FREE
-    rest : Lists s (turn s (T .states) (c .level) b ALLOCATING) (c .level) bs
+    rest : Lists s (turn s (T .pool .states) (c .level) b ALLOCATING) (c .level) bs
     rest =
         record {
           each = λ a h.
@@ -69,18 +69,18 @@ module _ {s : Shape} {T : State} {t : ℕ} {c : Call} (g : Running s T t c) (e :
         }
 
     taken :
-        Turn s T c (holding DIVIDING (c .size) (c .level) b) (c .level) b FREE ALLOCATING (T .owners)
-        (putList s (T .lists) (c .level) bs)
+        Turn s T c (holding DIVIDING (c .size) (c .level) b) (c .level) b FREE ALLOCATING (T .pool .owners)
+        (putList s (T .pool .lists) (c .level) bs)
     taken =
         record {
           stands = first;
           known = refl;
           exists = refl;
           undivided = refl;
-          merged = merged-less s (T .states) _ (less-turn first ALLOCATING refl) (facts (g .sound) .pool .merged);
+          merged = merged-less s (T .pool .states) _ (less-turn first ALLOCATING refl) (facts (g .sound) .pool .merged);
           ownersLong = facts (g .sound) .pool .ownersLong;
           owned =
-              owners-alike s (T .states) _ (T .owners) (alike-turn first ALLOCATING (λ n. eqb n ALLOCATED) refl)
+              owners-alike s (T .pool .states) _ (T .pool .owners) (alike-turn first ALLOCATING (λ n. eqb n ALLOCATED) refl)
               (facts (g .sound) .pool .owned);
           listing =
               listing-put (listing (facts (g .sound) .pool)) level rest
@@ -91,12 +91,12 @@ module _ {s : Shape} {T : State} {t : ℕ} {c : Call} (g : Running s T t c) (e :
           releasing = (ap (λ (n : ℕ). eqb n RELEASING) e, refl);
           ready = λ n. omega arith;
           kept =
-              dividing-kept s (T .device .clock) (c .size) (c .level) b level (first .block) target
+              dividing-kept s (T .threads .device .clock) (c .size) (c .level) b level (first .block) target
               (asking g FOUND e refl refl .size);
         }
 
   -- it is taken
-  pub take-kept : (b : ℕ) (bs : List ℕ) → freeList s (T .lists) (c .level) ≡ b ∷ bs → Facts s (takeFrom s T t c (b ∷ bs) .after)
+  pub take-kept : (b : ℕ) (bs : List ℕ) → freeList s (T .pool .lists) (c .level) ≡ b ∷ bs → Facts s (takeFrom s T t c (b ∷ bs) .after)
   unfolding takeFrom
   take-kept b bs q = turned g (taken b bs q)
 
@@ -105,4 +105,4 @@ module _ {s : Shape} {T : State} {t : ℕ} {c : Call} (g : Running s T t c) (e :
   unfolding takeFrom
   again-kept =
       only-call g (moved c ASKED 0) (uses-block c FOUND e) refl (λ n. omega arith)
-      (asked-kept s (T .device .clock) c (asking g FOUND e refl refl))
+      (asked-kept s (T .threads .device .clock) c (asking g FOUND e refl refl))

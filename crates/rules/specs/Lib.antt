@@ -3,6 +3,7 @@ pub mod Answers
 pub mod Tables
 pub mod Valid
 pub mod Steps
+pub mod Refusals
 pub mod Calls
 pub mod Questions
 pub mod Moves

@@ -8,10 +8,10 @@ use lib.Seq.{sets}
 use lib.Dec.{ltb, eqb}
 use Rattle.laws.specs.Tests.{every}
 use Rattle.shape.specs.declared.Shape.{Shape}
-use Rattle.shape.specs.Limits.{parts, allowed}
+use Rattle.shape.specs.Limits.{parts}
 use Rattle.shape.specs.Blocks.{size, id, bytes}
 use Rattle.rules.specs.declared.Refusal.{Refusal}
-use Rattle.rules.specs.declared.Refusal.the-variants.{ShapeNotAllowed, WrongLength, NotValid, OffsetOutside, RowTooShort}
+use Rattle.rules.specs.declared.Refusal.the-variants.{OffsetOutside, RowTooShort}
 use Rattle.rules.specs.declared.Answer.{Answer}
 use Rattle.rules.specs.declared.Answer.the-variants.{Refused, Whole, NotWhole}
 use Rattle.rules.specs.declared.Covered.{Covered}
@@ -19,23 +19,17 @@ use Rattle.rules.specs.declared.Covered.the-variants.{Block}
 use Rattle.rules.specs.declared.Mapped.{Mapped}
 use Rattle.rules.specs.declared.Mapped.the-variants.{Blocks}
 use Rattle.rules.specs.Numbers.{FREE, DIVIDED, NOEXIST, CLOSED}
-use Rattle.rules.specs.Tables.{State, lengths, stateAt, callOf}
-use Rattle.rules.specs.Valid.{valid}
+use Rattle.rules.specs.Tables.{State, stateAt, callOf}
+use Rattle.rules.specs.Refusals.{checked}
 
 -- whole: every top block is FREE, and no thread has a call open
 unfoldable pub isWhole : Shape → State → Bool
 isWhole s T =
-    every (s .tops) (λ b. eqb (stateAt s (T .states) 0 b) FREE)
-    && every (s .threads) (λ t. eqb (callOf (T .calls) t .stage) CLOSED)
-
--- the answer of a question whose tables were refused, or else its own
-abbrev pub answered : {A : Type 0} → (Refusal → A) → Shape → State → A → A
-answered refused s T rest =
-    cond (not (allowed s)) (refused ShapeNotAllowed)
-    (cond (not (lengths s T)) (refused WrongLength) (cond (not (valid s T)) (refused NotValid) rest))
+    every (s .tops) (λ b. eqb (stateAt s (T .pool .states) 0 b) FREE)
+    && every (s .threads) (λ t. eqb (callOf (T .threads .calls) t .stage) CLOSED)
 
 unfoldable pub whole : Shape → State → Answer
-whole s T = answered Refused s T (cond (isWhole s T) Whole NotWhole)
+whole s T = checked Refused s T (cond (isWhole s T) Whole NotWhole)
 
 -- a block that exists and is not divided
 abbrev pub undivided : ℕ → Bool
@@ -54,8 +48,8 @@ blockOver s states x l = Block (id s l (x / size s l)) (stateAt s states l (x / 
 -- cover: the one undivided existing block over a byte offset, with its state
 unfoldable pub cover : Shape → State → ℕ → Covered
 cover s T x =
-    answered Covered.Refused s T
-    (cond (ltb x (bytes s)) (blockOver s (T .states) x (coverLevel s (T .states) x (s .levels - 1)))
+    checked Covered.Refused s T
+    (cond (ltb x (bytes s)) (blockOver s (T .pool .states) x (coverLevel s (T .pool .states) x (s .levels - 1)))
     (Covered.Refused OffsetOutside))
 
 -- what n blocks from b on list, one behind the other
@@ -87,4 +81,4 @@ mapRow s states row =
     (mapOutcome (Blocks (length (mapIds s states))) (sets row 0 (mapIds s states)))
 
 unfoldable pub mapPool : Shape → State → List ℕ → MapOutcome
-mapPool s T row = answered (λ r. mapOutcome (Mapped.Refused r) row) s T (mapRow s (T .states) row)
+mapPool s T row = checked (λ r. mapOutcome (Mapped.Refused r) row) s T (mapRow s (T .pool .states) row)

@@ -20,7 +20,7 @@ use Rattle.rules.specs.declared.Refusal.the-variants.{NoRoom, TimedOut}
 use Rattle.rules.specs.declared.Answer.{Answer}
 use Rattle.rules.specs.declared.Answer.the-variants.{Refused, Found, Again, Taken, Split, Granted, Waiting, Merged, Settled}
 use Rattle.rules.specs.Numbers.{ALLOCATED, FREE, DIVIDED, NOEXIST, FREEING, ALLOCATING, CLOSED, ASKED, FOUND, DIVIDING, RELEASING, WAITING, NEVER, TIMED, CELLS}
-use Rattle.rules.specs.Tables.{State, stateAt, freeList, putList, queueOf, putQueue, callOf, putCall}
+use Rattle.rules.specs.Tables.{Pool, Threads, State, pool, threads, lent, stateAt, freeList, putList, queueOf, putQueue, callOf, putCall}
 
 -- an answer, and the tables and the record as the step leaves them
 pub record Outcome : Type 0 where
@@ -43,17 +43,28 @@ abbrev pub moved : Call → ℕ → ℕ → Call
 moved c stage l =
     record { stage = stage; size = c .size; wait = c .wait; deadline = c .deadline; level = l; block = c .block }
 
+-- thread t's call is put, and nothing else of the threads changes
+abbrev pub withCall : Threads → ℕ → Call → Threads
+withCall W t c = threads (putCall (W .calls) t c) (W .queue) (W .device)
+
 -- the step changes thread t's call, and nothing else
 abbrev pub onlyCall : State → ℕ → Call → State
-onlyCall T t c =
-    record {
-      states = T .states;
-      owners = T .owners;
-      lists = T .lists;
-      calls = putCall (T .calls) t c;
-      queue = T .queue;
-      device = T .device;
-    }
+onlyCall T t c = lent (T .pool) (withCall (T .threads) t c)
+
+-- thread t joins the queue's end, blocked, and nobody runs
+abbrev pub blocked : Shape → Threads → ℕ → Call → Threads
+blocked s W t c =
+    threads (putCall (W .calls) t (moved c WAITING 0)) (putQueue (s .threads) (queueOf (W .queue) ++ (t ∷ [])))
+    (record { clock = W .device .clock; running = 0 })
+
+-- threads become ready and asked
+unfoldable pub wake : List ℕ → List ℕ → List ℕ
+wake calls [] = calls
+wake calls (t ∷ ts) = wake (set calls (CELLS * t) ASKED) ts
+
+-- every waiting thread becomes ready and asked, and the queue is empty
+abbrev pub wakeAll : Shape → Threads → Threads
+wakeAll s W = threads (wake (W .calls) (queueOf (W .queue))) (putQueue (s .threads) []) (W .device)
 
 -- the deepest level from l upward with a FREE block
 unfoldable pub deepest : List ℕ → ℕ → Room
@@ -64,16 +75,8 @@ deepest lists (suc l) = cond (ltb 0 (getD lists (suc l) 0)) (At (suc l)) (deepes
 unfoldable pub noRoom : Shape → State → ℕ → Call → Outcome
 noRoom s T t c =
     cond (eqb (c .wait) NEVER) (outcome (Refused NoRoom) (onlyCall T t closed))
-    (cond (eqb (c .wait) TIMED && eqb (c .deadline) (T .device .clock)) (outcome (Refused TimedOut) (onlyCall T t closed))
-    (outcome Waiting
-    (record {
-      states = T .states;
-      owners = T .owners;
-      lists = T .lists;
-      calls = putCall (T .calls) t (moved c WAITING 0);
-      queue = putQueue (s .threads) (queueOf (T .queue) ++ (t ∷ []));
-      device = record { clock = T .device .clock; running = 0 };
-    })))
+    (cond (eqb (c .wait) TIMED && eqb (c .deadline) (T .threads .device .clock)) (outcome (Refused TimedOut) (onlyCall T t closed))
+    (outcome Waiting (lent (T .pool) (blocked s (T .threads) t c))))
 
 unfoldable pub lookAt : Shape → State → ℕ → Call → Room → Outcome
 lookAt s T t c (At l) = outcome (Found l) (onlyCall T t (moved c FOUND l))
@@ -82,55 +85,48 @@ lookAt s T t c Nowhere = noRoom s T t c
 -- asked: a timed call with the clock above its deadline ends; otherwise the deepest level with room is found
 unfoldable pub look : Shape → State → ℕ → Call → Outcome
 look s T t c =
-    cond (eqb (c .wait) TIMED && ltb (c .deadline) (T .device .clock)) (outcome (Refused TimedOut) (onlyCall T t closed))
-    (lookAt s T t c (deepest (T .lists) (levelFor s (c .size))))
+    cond (eqb (c .wait) TIMED && ltb (c .deadline) (T .threads .device .clock)) (outcome (Refused TimedOut) (onlyCall T t closed))
+    (lookAt s T t c (deepest (T .pool .lists) (levelFor s (c .size))))
+
+-- block b leaves the front of its level's list and becomes ALLOCATING; bs is the rest of the list
+abbrev pub takePool : Shape → Pool → ℕ → ℕ → List ℕ → Pool
+takePool s P l b bs = pool (set (P .states) (place s l b) ALLOCATING) (P .owners) (putList s (P .lists) l bs)
 
 unfoldable pub takeFrom : Shape → State → ℕ → Call → List ℕ → Outcome
 takeFrom s T t c [] = outcome Again (onlyCall T t (moved c ASKED 0))
 takeFrom s T t c (b ∷ bs) =
     outcome (Taken (id s (c .level) b))
-    (record {
-      states = set (T .states) (place s (c .level) b) ALLOCATING;
-      owners = T .owners;
-      lists = putList s (T .lists) (c .level) bs;
-      calls = putCall (T .calls) t (holding DIVIDING (c .size) (c .level) b);
-      queue = T .queue;
-      device = T .device;
-    })
+    (lent (takePool s (T .pool) (c .level) b bs) (withCall (T .threads) t (holding DIVIDING (c .size) (c .level) b)))
 
 -- found: the first of that level's list becomes ALLOCATING and the call dividing; if the list has emptied, the call is asked again
 unfoldable pub takeStep : Shape → State → ℕ → Call → Outcome
-takeStep s T t c = takeFrom s T t c (freeList s (T .lists) (c .level))
+takeStep s T t c = takeFrom s T t c (freeList s (T .pool .lists) (c .level))
 
--- dividing above its target: the block becomes DIVIDED, its first part ALLOCATING and in hand, the others FREE, appended in ascending order
+-- the block becomes DIVIDED, its first part ALLOCATING, the others FREE, appended in ascending order
+abbrev pub splitPool : Shape → Pool → ℕ → ℕ → Pool
+splitPool s P l b =
+    pool
+    (sets (set (P .states) (place s l b) DIVIDED) (place s (l + 1) (parts s * b)) (ALLOCATING ∷ replicate (parts s - 1) FREE))
+    (P .owners)
+    (putList s (P .lists) (l + 1) (freeList s (P .lists) (l + 1) ++ upFrom (parts s * b + 1) (parts s - 1)))
+
+-- dividing above its target: the block is split, its first part in hand
 unfoldable pub splitStep : Shape → State → ℕ → Call → Outcome
 splitStep s T t c =
     outcome (Split (id s (c .level + 1) (parts s * c .block)))
-    (record {
-      states =
-          sets (set (T .states) (place s (c .level) (c .block)) DIVIDED) (place s (c .level + 1) (parts s * c .block))
-          (ALLOCATING ∷ replicate (parts s - 1) FREE);
-      owners = T .owners;
-      lists =
-          putList s (T .lists) (c .level + 1)
-          (freeList s (T .lists) (c .level + 1) ++ upFrom (parts s * c .block + 1) (parts s - 1));
-      calls = putCall (T .calls) t (holding DIVIDING (c .size) (c .level + 1) (parts s * c .block));
-      queue = T .queue;
-      device = T .device;
-    })
+    (lent (splitPool s (T .pool) (c .level) (c .block))
+    (withCall (T .threads) t (holding DIVIDING (c .size) (c .level + 1) (parts s * c .block))))
 
--- at its target: ALLOCATED with its owner, call closed, granted
+-- the block becomes ALLOCATED with its owner
+abbrev pub grantPool : Shape → Pool → ℕ → ℕ → ℕ → Pool
+grantPool s P t l b =
+    pool (set (P .states) (place s l b) ALLOCATED) (set (P .owners) (place s l b) (t + 1)) (P .lists)
+
+-- at its target: the block is the thread's, call closed, granted
 unfoldable pub grantStep : Shape → State → ℕ → Call → Outcome
 grantStep s T t c =
     outcome (Granted (id s (c .level) (c .block)))
-    (record {
-      states = set (T .states) (place s (c .level) (c .block)) ALLOCATED;
-      owners = set (T .owners) (place s (c .level) (c .block)) (t + 1);
-      lists = T .lists;
-      calls = putCall (T .calls) t closed;
-      queue = T .queue;
-      device = T .device;
-    })
+    (lent (grantPool s (T .pool) t (c .level) (c .block)) (withCall (T .threads) t closed))
 
 unfoldable pub divideStep : Shape → State → ℕ → Call → Outcome
 divideStep s T t c = cond (ltb (c .level) (levelFor s (c .size))) (splitStep s T t c) (grantStep s T t c)
@@ -145,44 +141,34 @@ merges s states l b =
     ltb 0 l
     && every (parts s) (λ j. eqb (firstBuddy s b + j) b || eqb (stateAt s states l (firstBuddy s b + j)) FREE)
 
--- merge: the buddies leave the list, the rest keeping its order, all become NOEXIST, the parent FREEING and in hand
+-- the buddies leave the list, the rest keeping its order, all become NOEXIST, the parent FREEING
+abbrev pub mergePool : Shape → Pool → ℕ → ℕ → Pool
+mergePool s P l b =
+    pool
+    (set (sets (P .states) (place s l (firstBuddy s b)) (replicate (parts s) NOEXIST)) (place s (l - 1) (b / parts s)) FREEING)
+    (P .owners)
+    (putList s (P .lists) l (keep (λ x. not (eqb (x / parts s) (b / parts s))) (freeList s (P .lists) l)))
+
+-- merge: the parent is in hand
 unfoldable pub mergeStep : Shape → State → ℕ → Call → Outcome
 mergeStep s T t c =
     outcome (Merged (id s (c .level - 1) (c .block / parts s)))
-    (record {
-      states =
-          set (sets (T .states) (place s (c .level) (firstBuddy s (c .block))) (replicate (parts s) NOEXIST))
-          (place s (c .level - 1) (c .block / parts s))
-          FREEING;
-      owners = T .owners;
-      lists =
-          putList s (T .lists) (c .level)
-          (keep (λ b. not (eqb (b / parts s) (c .block / parts s))) (freeList s (T .lists) (c .level)));
-      calls = putCall (T .calls) t (holding RELEASING 0 (c .level - 1) (c .block / parts s));
-      queue = T .queue;
-      device = T .device;
-    })
+    (lent (mergePool s (T .pool) (c .level) (c .block))
+    (withCall (T .threads) t (holding RELEASING 0 (c .level - 1) (c .block / parts s))))
 
--- threads become ready and asked
-unfoldable pub wake : List ℕ → List ℕ → List ℕ
-wake calls [] = calls
-wake calls (t ∷ ts) = wake (set calls (CELLS * t) ASKED) ts
+-- the block becomes FREE, appended to its list
+abbrev pub settlePool : Shape → Pool → ℕ → ℕ → Pool
+settlePool s P l b =
+    pool (set (P .states) (place s l b) FREE) (P .owners) (putList s (P .lists) l (freeList s (P .lists) l ++ (b ∷ [])))
 
--- settle: FREE, appended to its list, call closed, every waiting thread ready and asked, the queue empty
+-- settle: call closed, every waiting thread ready and asked, the queue empty
 unfoldable pub settleStep : Shape → State → ℕ → Call → Outcome
 settleStep s T t c =
-    outcome (Settled (length (queueOf (T .queue))))
-    (record {
-      states = set (T .states) (place s (c .level) (c .block)) FREE;
-      owners = T .owners;
-      lists = putList s (T .lists) (c .level) (freeList s (T .lists) (c .level) ++ (c .block ∷ []));
-      calls = wake (putCall (T .calls) t closed) (queueOf (T .queue));
-      queue = putQueue (s .threads) [];
-      device = T .device;
-    })
+    outcome (Settled (length (queueOf (T .threads .queue))))
+    (lent (settlePool s (T .pool) (c .level) (c .block)) (wakeAll s (withCall (T .threads) t closed)))
 
 unfoldable pub releaseStep : Shape → State → ℕ → Call → Outcome
-releaseStep s T t c = cond (merges s (T .states) (c .level) (c .block)) (mergeStep s T t c) (settleStep s T t c)
+releaseStep s T t c = cond (merges s (T .pool .states) (c .level) (c .block)) (mergeStep s T t c) (settleStep s T t c)
 
 -- go on, by the call's stage
 unfoldable pub goOnStep : Shape → State → ℕ → Call → Outcome

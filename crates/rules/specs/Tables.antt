@@ -16,27 +16,43 @@ use Rattle.rules.specs.declared.lengths.Lengths.{Lengths}
 use Rattle.rules.specs.declared.Call.{Call}
 use Rattle.rules.specs.Numbers.{FREE, NOEXIST, CELLS}
 
--- the five tables, and the record of clock and running thread
-pub record State : Type 0 where
+-- a pool: the state and the owner of each block, and the free lists
+pub record Pool : Type 0 where
   pub states : List ℕ
   pub owners : List ℕ
   pub lists : List ℕ
+
+-- the threads: their calls, the wait queue, and the record of clock and running thread
+pub record Threads : Type 0 where
   pub calls : List ℕ
   pub queue : List ℕ
   pub device : Device
 
+-- all that is lent
+pub record State : Type 0 where
+  pub pool : Pool
+  pub threads : Threads
+
+abbrev pub pool : List ℕ → List ℕ → List ℕ → Pool
+pool states owners lists = record { states = states; owners = owners; lists = lists }
+
+abbrev pub threads : List ℕ → List ℕ → Device → Threads
+threads calls queue device = record { calls = calls; queue = queue; device = device }
+
+abbrev pub lent : Pool → Threads → State
+lent P W = record { pool = P; threads = W }
+
 abbrev pub state : List ℕ → List ℕ → List ℕ → List ℕ → List ℕ → Device → State
-state states owners lists calls queue device =
-    record { states = states; owners = owners; lists = lists; calls = calls; queue = queue; device = device }
+state states owners lists calls queue device = lent (pool states owners lists) (threads calls queue device)
 
 -- the lengths that the tables of a shape have
 unfoldable pub lengths : Shape → State → Bool
 lengths s T =
-    eqb (length (T .states)) (blocks s)
-    && eqb (length (T .owners)) (blocks s)
-    && eqb (length (T .lists)) (s .levels + blocks s)
-    && eqb (length (T .calls)) (CELLS * s .threads)
-    && eqb (length (T .queue)) (s .threads + 1)
+    eqb (length (T .pool .states)) (blocks s)
+    && eqb (length (T .pool .owners)) (blocks s)
+    && eqb (length (T .pool .lists)) (s .levels + blocks s)
+    && eqb (length (T .threads .calls)) (CELLS * s .threads)
+    && eqb (length (T .threads .queue)) (s .threads + 1)
 
 -- the same lengths as a list for whoever lends the tables; none where the shape is not allowed
 unfoldable pub tableLengths : Shape → Lengths
@@ -91,13 +107,14 @@ unfoldable pub putCall : List ℕ → ℕ → Call → List ℕ
 putCall calls t c = sets calls (CELLS * t) (cells c)
 
 -- fresh: top blocks FREE, listed 0 upward; no calls; clock 0; nobody running
+abbrev pub freshPool : Shape → Pool
+freshPool s =
+    pool (replicate (s .tops) FREE ++ replicate (blocks s - s .tops) NOEXIST) (replicate (blocks s) 0)
+    (putList s (replicate (s .levels + blocks s) 0) 0 (upFrom 0 (s .tops)))
+
+abbrev pub freshThreads : Shape → Threads
+freshThreads s =
+    threads (replicate (CELLS * s .threads) 0) (replicate (s .threads + 1) 0) (record { clock = 0; running = 0 })
+
 unfoldable pub fresh : Shape → State
-fresh s =
-    record {
-      states = replicate (s .tops) FREE ++ replicate (blocks s - s .tops) NOEXIST;
-      owners = replicate (blocks s) 0;
-      lists = putList s (replicate (s .levels + blocks s) 0) 0 (upFrom 0 (s .tops));
-      calls = replicate (CELLS * s .threads) 0;
-      queue = replicate (s .threads + 1) 0;
-      device = record { clock = 0; running = 0 };
-    }
+fresh s = lent (freshPool s) (freshThreads s)

@@ -14,7 +14,7 @@ use Rattle.shape.specs.Time.{ticks, longest}
 use Rattle.rules.specs.declared.Device.{Device}
 use Rattle.rules.specs.declared.Call.{Call}
 use Rattle.rules.specs.Numbers.{ALLOCATED, FREE, DIVIDED, NOEXIST, FREEING, ALLOCATING, CLOSED, ASKED, FOUND, DIVIDING, RELEASING, WAITING, NEVER, TIMED}
-use Rattle.rules.specs.Tables.{State, stateAt, section, freeList, queueOf, callOf}
+use Rattle.rules.specs.Tables.{Pool, Threads, State, stateAt, section, freeList, queueOf, callOf}
 
 -- which fields a call's stage uses
 abbrev pub usesWait : Call → Bool
@@ -102,16 +102,23 @@ ownersKnown s states owners =
 unfoldable pub handInside : Shape → Call → Bool
 handInside s c = not (usesBlock c) || (ltb (c .level) (s .levels) && ltb (c .block) (count s (c .level)))
 
--- block b of level l is the block in hand of a call at this stage
-abbrev pub inHand : ℕ → ℕ → ℕ → Call → Bool
-inHand stage l b c = eqb (c .stage) stage && eqb (c .level) l && eqb (c .block) b
+-- a call that has a block in hand to be split or granted, and one that has a block in hand to be released
+abbrev pub dividing : Call → Bool
+dividing c = eqb (c .stage) DIVIDING
 
--- blocks of this state correspond one to one to calls of this stage
-unfoldable pub oneToOne : ℕ → ℕ → Shape → List ℕ → List ℕ → Bool
-oneToOne st stage s states calls =
+abbrev pub releasing : Call → Bool
+releasing c = eqb (c .stage) RELEASING
+
+-- block b of level l is the block in hand of a call that passes the test
+abbrev pub inHand : (Call → Bool) → ℕ → ℕ → Call → Bool
+inHand test l b c = test c && eqb (c .level) l && eqb (c .block) b
+
+-- blocks of this state correspond one to one to calls that pass the test
+unfoldable pub oneToOne : ℕ → (Call → Bool) → Shape → List ℕ → List ℕ → Bool
+oneToOne st test s states calls =
     every (s .levels) (λ l.
     every (count s l) (λ b.
-    eqb (tally (s .threads) (λ t. inHand stage l b (callOf calls t))) (bit (eqb (stateAt s states l b) st))))
+    eqb (tally (s .threads) (λ t. inHand test l b (callOf calls t))) (bit (eqb (stateAt s states l b) st))))
 
 -- a block in hand is not deeper than its target, which is the level for the size asked
 unfoldable pub targetKept : Shape → Call → Bool
@@ -155,15 +162,31 @@ callKept s clock c =
 unfoldable pub callsKept : Shape → ℕ → List ℕ → Bool
 callsKept s clock calls = every (s .threads) (λ t. callKept s clock (callOf calls t))
 
+-- the lines that speak of a pool alone
+unfoldable pub poolValid : Shape → Pool → Bool
+poolValid s P =
+    statesKnown s (P .states)
+    && listEnds s (P .lists)
+    && topsExist s (P .states)
+    && partsExist s (P .states)
+    && deepestWhole s (P .states)
+    && buddiesMerged s (P .states)
+    && freeListed s (P .states) (P .lists)
+    && ownersKnown s (P .states) (P .owners)
+
+-- those that speak of the threads alone
+unfoldable pub threadsValid : Shape → Threads → Bool
+threadsValid s W =
+    queueEnds s (W .queue)
+    && callsKept s (W .device .clock) (W .calls)
+    && waitersQueued s (W .calls) (W .queue)
+    && runningReady s (W .calls) (W .device)
+
+-- and those that join the two: ALLOCATING blocks correspond one to one to dividing calls, FREEING blocks to releasing calls
+unfoldable pub handsValid : Shape → Pool → Threads → Bool
+handsValid s P W =
+    oneToOne ALLOCATING dividing s (P .states) (W .calls) && oneToOne FREEING releasing s (P .states) (W .calls)
+
 -- tables are a valid state
 unfoldable pub valid : Shape → State → Bool
-valid s T =
-    (statesKnown s (T .states) && ownersKnown s (T .states) (T .owners))
-    && (topsExist s (T .states)
-    && partsExist s (T .states)
-    && deepestWhole s (T .states)
-    && buddiesMerged s (T .states))
-    && (listEnds s (T .lists) && freeListed s (T .states) (T .lists))
-    && callsKept s (T .device .clock) (T .calls)
-    && (oneToOne ALLOCATING DIVIDING s (T .states) (T .calls) && oneToOne FREEING RELEASING s (T .states) (T .calls))
-    && (queueEnds s (T .queue) && waitersQueued s (T .calls) (T .queue) && runningReady s (T .calls) (T .device))
+valid s T = poolValid s (T .pool) && threadsValid s (T .threads) && handsValid s (T .pool) (T .threads)

@@ -29,11 +29,11 @@ use Rattle.script_run.proofs.Written.{same-shape, listed-none, listed-b
 
 -- tables of the same lengths
 pub record SameLengths (T U : State) : Type 0 where
-  pub states : length (T .states) ≡ length (U .states)
-  pub owners : length (T .owners) ≡ length (U .owners)
-  pub lists : length (T .lists) ≡ length (U .lists)
-  pub calls : length (T .calls) ≡ length (U .calls)
-  pub queue : length (T .queue) ≡ length (U .queue)
+  pub states : length (T .pool .states) ≡ length (U .pool .states)
+  pub owners : length (T .pool .owners) ≡ length (U .pool .owners)
+  pub lists : length (T .pool .lists) ≡ length (U .pool .lists)
+  pub calls : length (T .threads .calls) ≡ length (U .threads .calls)
+  pub queue : length (T .threads .queue) ≡ length (U .threads .queue)
 
 -- a line is stored, and takes no more than its room
 abbrev pub Line : List ℕ → ℕ → ℕ → ℕ → Answer → ℕ → List ℕ → Type 0

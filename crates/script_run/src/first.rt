@@ -73,7 +73,7 @@ fn run_built(
     calls: &mut [u64],
     queue: &mut [u8],
 ) -> usize
-    requires { ⌜ Lent (now script) next s (state (now states) (now owners) (now lists) (now calls) (now queue) (fresh s .device)) (now out) end ⌝ }
+    requires { ⌜ Lent (now script) next s (state (now states) (now owners) (now lists) (now calls) (now queue) (fresh s .threads .device)) (now out) end ⌝ }
     ensures { λ r. ⌜ AllListed (now (script .entry)) (now (out .entry)) end (now (out .exit)) r ⌝ }
 {
     let tag = script[0];
@@ -111,7 +111,7 @@ fn run_shape(
     calls: &mut [u64],
     queue: &mut [u8],
 ) -> usize
-    requires { ⌜ Headed (now script) next s (now out) end × Largest (state (now states) (now owners) (now lists) (now calls) (now queue) (fresh s .device)) ⌝ }
+    requires { ⌜ Headed (now script) next s (now out) end × Largest (state (now states) (now owners) (now lists) (now calls) (now queue) (fresh s .threads .device)) ⌝ }
     ensures { λ r. ⌜ AllListed (now (script .entry)) (now (out .entry)) end (now (out .exit)) r ⌝ }
 {
     if !s.allowed() {

@@ -26,22 +26,22 @@ no-pool q e f = true≢false (sym (ap isPool f) ∙ e)
 -- what ask promises of the calls alone, whatever the other tables
 abbrev Asks : Shape → State → ℕ → ℕ → Millis → Answer → List ℕ → Type 0
 Asks s T t size m a calls =
-    (states owners lists queue : List ℕ) → Sound s (state states owners lists (T .calls) queue (T .device)) →
-    outcome a (state states owners lists calls queue (T .device))
-    ≡ ask s (state states owners lists (T .calls) queue (T .device)) t size m
+    (states owners lists queue : List ℕ) → Sound s (state states owners lists (T .threads .calls) queue (T .threads .device)) →
+    outcome a (state states owners lists calls queue (T .threads .device))
+    ≡ ask s (state states owners lists (T .threads .calls) queue (T .threads .device)) t size m
 
 module _ {s : Shape} {T : State} (g : Sound s T) {r : Record} where
   pub asks :
       {t size : ℕ} {m : Millis} {a : Answer} {calls : List ℕ} → r ≡ Ask t size m → Asks s T t size m a calls →
-      outcome a (state (T .states) (T .owners) (T .lists) calls (T .queue) (T .device)) ≡ recordStep s T r
+      outcome a (state (T .pool .states) (T .pool .owners) (T .pool .lists) calls (T .threads .queue) (T .threads .device)) ≡ recordStep s T r
   unfolding recordStep
-  asks e f = rw e (f (T .states) (T .owners) (T .lists) (T .queue) g)
+  asks e f = rw e (f (T .pool .states) (T .pool .owners) (T .pool .lists) (T .threads .queue) g)
 
   pub asks-shortly :
       {t size : ℕ} {a : Answer} {calls : List ℕ} → r ≡ ShortAsk t size → Asks s T t size shortWait a calls →
-      outcome a (state (T .states) (T .owners) (T .lists) calls (T .queue) (T .device)) ≡ recordStep s T r
+      outcome a (state (T .pool .states) (T .pool .owners) (T .pool .lists) calls (T .threads .queue) (T .threads .device)) ≡ recordStep s T r
   unfolding recordStep
-  asks-shortly e f = rw e (f (T .states) (T .owners) (T .lists) (T .queue) g)
+  asks-shortly e f = rw e (f (T .pool .states) (T .pool .owners) (T .pool .lists) (T .threads .queue) g)
 
   pub goes-on : {t : ℕ} {o : Outcome} → r ≡ GoOn t → o ≡ goOn s T t → o ≡ recordStep s T r
   unfolding recordStep
@@ -49,36 +49,36 @@ module _ {s : Shape} {T : State} (g : Sound s T) {r : Record} where
 
   pub gives :
       {t i : ℕ} {a : Answer} {states owners calls : List ℕ} → r ≡ Give t i →
-      ((lists queue : List ℕ) → Sound s (state (T .states) (T .owners) lists (T .calls) queue (T .device)) →
-      outcome a (state states owners lists calls queue (T .device))
-      ≡ give s (state (T .states) (T .owners) lists (T .calls) queue (T .device)) t i) →
-      outcome a (state states owners (T .lists) calls (T .queue) (T .device)) ≡ recordStep s T r
+      ((lists queue : List ℕ) → Sound s (state (T .pool .states) (T .pool .owners) lists (T .threads .calls) queue (T .threads .device)) →
+      outcome a (state states owners lists calls queue (T .threads .device))
+      ≡ give s (state (T .pool .states) (T .pool .owners) lists (T .threads .calls) queue (T .threads .device)) t i) →
+      outcome a (state states owners (T .pool .lists) calls (T .threads .queue) (T .threads .device)) ≡ recordStep s T r
   unfolding recordStep
-  gives e f = rw e (f (T .lists) (T .queue) g)
+  gives e f = rw e (f (T .pool .lists) (T .threads .queue) g)
 
   pub switches :
       {t : ℕ} {a : Answer} {d : Device} → r ≡ Switch t →
-      ((states owners lists queue : List ℕ) → Sound s (state states owners lists (T .calls) queue (T .device)) →
-      outcome a (state states owners lists (T .calls) queue d)
-      ≡ switch s (state states owners lists (T .calls) queue (T .device)) t) →
-      outcome a (state (T .states) (T .owners) (T .lists) (T .calls) (T .queue) d) ≡ recordStep s T r
+      ((states owners lists queue : List ℕ) → Sound s (state states owners lists (T .threads .calls) queue (T .threads .device)) →
+      outcome a (state states owners lists (T .threads .calls) queue d)
+      ≡ switch s (state states owners lists (T .threads .calls) queue (T .threads .device)) t) →
+      outcome a (state (T .pool .states) (T .pool .owners) (T .pool .lists) (T .threads .calls) (T .threads .queue) d) ≡ recordStep s T r
   unfolding recordStep
-  switches e f = rw e (f (T .states) (T .owners) (T .lists) (T .queue) g)
+  switches e f = rw e (f (T .pool .states) (T .pool .owners) (T .pool .lists) (T .threads .queue) g)
 
   pub ticks :
       {a : Answer} {calls queue : List ℕ} {d : Device} → r ≡ Tick →
-      ((states owners lists : List ℕ) → Sound s (state states owners lists (T .calls) (T .queue) (T .device)) →
+      ((states owners lists : List ℕ) → Sound s (state states owners lists (T .threads .calls) (T .threads .queue) (T .threads .device)) →
       outcome a (state states owners lists calls queue d)
-      ≡ tick s (state states owners lists (T .calls) (T .queue) (T .device))) →
-      outcome a (state (T .states) (T .owners) (T .lists) calls queue d) ≡ recordStep s T r
+      ≡ tick s (state states owners lists (T .threads .calls) (T .threads .queue) (T .threads .device))) →
+      outcome a (state (T .pool .states) (T .pool .owners) (T .pool .lists) calls queue d) ≡ recordStep s T r
   unfolding recordStep
-  ticks e f = rw e (f (T .states) (T .owners) (T .lists) g)
+  ticks e f = rw e (f (T .pool .states) (T .pool .owners) (T .pool .lists) g)
 
   -- whether all is whole alters nothing
   pub wholly :
       {a : Answer} → r ≡ Whole →
-      ((owners lists queue : List ℕ) (d : Device) → Sound s (state (T .states) owners lists (T .calls) queue d) →
-      a ≡ whole s (state (T .states) owners lists (T .calls) queue d)) →
+      ((owners lists queue : List ℕ) (d : Device) → Sound s (state (T .pool .states) owners lists (T .threads .calls) queue d) →
+      a ≡ whole s (state (T .pool .states) owners lists (T .threads .calls) queue d)) →
       outcome a T ≡ recordStep s T r
   unfolding recordStep
-  wholly e f = rw (e, f (T .owners) (T .lists) (T .queue) (T .device) g)
+  wholly e f = rw (e, f (T .pool .owners) (T .pool .lists) (T .threads .queue) (T .threads .device) g)

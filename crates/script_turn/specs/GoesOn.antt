@@ -48,13 +48,13 @@ module _ (s : Shape) (T : State) (t : ℕ) (c : Call) where
   none-goes-on : GoesOn (noRoom s T t c)
   unfolding noRoom
   none-goes-on =
-      by-either (eqb (c .wait) NEVER) (other refl) (by-either (eqb (c .wait) TIMED && eqb (c .deadline) (T .device .clock)) (other refl) (other refl))
+      by-either (eqb (c .wait) NEVER) (other refl) (by-either (eqb (c .wait) TIMED && eqb (c .deadline) (T .threads .device .clock)) (other refl) (other refl))
 
   look-goes-on : GoesOn (look s T t c)
   unfolding look lookAt
   look-goes-on =
-      by-either (eqb (c .wait) TIMED && ltb (c .deadline) (T .device .clock)) (other refl)
-      (at (deepest (T .lists) (levelFor s (c .size))))
+      by-either (eqb (c .wait) TIMED && ltb (c .deadline) (T .threads .device .clock)) (other refl)
+      (at (deepest (T .pool .lists) (levelFor s (c .size))))
     where
       at : (r : Room) → GoesOn (lookAt s T t c r)
       at (At l) = other refl
@@ -62,7 +62,7 @@ module _ (s : Shape) (T : State) (t : ℕ) (c : Call) where
 
   take-goes-on : GoesOn (takeStep s T t c)
   unfolding takeStep takeFrom
-  take-goes-on = at (freeList s (T .lists) (c .level))
+  take-goes-on = at (freeList s (T .pool .lists) (c .level))
     where
       at : (bs : List ℕ) → GoesOn (takeFrom s T t c bs)
       at [] = other refl
@@ -74,7 +74,7 @@ module _ (s : Shape) (T : State) (t : ℕ) (c : Call) where
 
   release-goes-on : GoesOn (releaseStep s T t c)
   unfolding releaseStep mergeStep settleStep
-  release-goes-on = by-either (merges s (T .states) (c .level) (c .block)) (other refl) (other refl)
+  release-goes-on = by-either (merges s (T .pool .states) (c .level) (c .block)) (other refl) (other refl)
 
   step-goes-on : GoesOn (goOnStep s T t c)
   unfolding goOnStep
@@ -88,14 +88,14 @@ module _ (s : Shape) (T : State) (a : allowed s ≡ true) where
 
   past-running : (t : ℕ) {rest : Outcome} → GoesOn rest → GoesOn (byRunning s T t rest)
   past-running t g =
-      past (not (ltb t (s .threads))) NoThread T refl (past (not (eqb (T .device .running) (t + 1))) NotRunning T refl g)
+      past (not (ltb t (s .threads))) NoThread T refl (past (not (eqb (T .threads .device .running) (t + 1))) NotRunning T refl g)
 
   pub ask-goes-on : (t size : ℕ) (m : Millis) → GoesOn (ask s T t size m)
   unfolding ask askStep
   ask-goes-on t size m =
       past-checked
       (past-running t
-      (past (not (eqb (callOf (T .calls) t .stage) CLOSED)) CallOpen T refl
+      (past (not (eqb (callOf (T .threads .calls) t .stage) CLOSED)) CallOpen T refl
       (past (ltb (s .«top_size») size) SizeAboveTop T refl (past (isOutside (wait (m .0))) WaitOutside T refl (other refl)))))
 
   pub go-on-goes-on : (t : ℕ) → GoesOn (goOn s T t)
@@ -103,28 +103,28 @@ module _ (s : Shape) (T : State) (a : allowed s ≡ true) where
   go-on-goes-on t =
       past-checked
       (past-running t
-      (past (eqb (callOf (T .calls) t .stage) CLOSED) NoCall T refl (step-goes-on s T t (callOf (T .calls) t))))
+      (past (eqb (callOf (T .threads .calls) t .stage) CLOSED) NoCall T refl (step-goes-on s T t (callOf (T .threads .calls) t))))
 
   pub give-goes-on : (t i : ℕ) → GoesOn (give s T t i)
   unfolding give giveStep giveBlock
   give-goes-on t i =
       past-checked
       (past-running t
-      (past (not (eqb (callOf (T .calls) t .stage) CLOSED)) CallOpen T refl
+      (past (not (eqb (callOf (T .threads .calls) t .stage) CLOSED)) CallOpen T refl
       (past (idOutside s i) IdOutside T refl
-      (past (not (eqb (stateAt s (T .states) (idLevel i) (idBlock i)) ALLOCATED)) NotAllocated T refl
-      (past (not (eqb (getD (T .owners) (place s (idLevel i) (idBlock i)) 0) (t + 1))) NotOwner T refl (other refl))))))
+      (past (not (eqb (stateAt s (T .pool .states) (idLevel i) (idBlock i)) ALLOCATED)) NotAllocated T refl
+      (past (not (eqb (getD (T .pool .owners) (place s (idLevel i) (idBlock i)) 0) (t + 1))) NotOwner T refl (other refl))))))
 
   pub switch-goes-on : (t : ℕ) → GoesOn (switch s T t)
   unfolding switch switchStep
   switch-goes-on t =
       past-checked
       (past (not (ltb t (s .threads))) NoThread T refl
-      (past (eqb (callOf (T .calls) t .stage) WAITING) IsBlocked T refl (other refl)))
+      (past (eqb (callOf (T .threads .calls) t .stage) WAITING) IsBlocked T refl (other refl)))
 
   pub tick-goes-on : GoesOn (tick s T)
   unfolding tick tickStep
-  tick-goes-on = past-checked (past (eqb (T .device .clock) CLOCK-END) ClockAtEnd T refl (other refl))
+  tick-goes-on = past-checked (past (eqb (T .threads .device .clock) CLOCK-END) ClockAtEnd T refl (other refl))
 
   pub whole-goes-on : GoesOn (outcome (whole s T) T)
   unfolding whole

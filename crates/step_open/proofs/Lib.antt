@@ -1,4 +1,3 @@
 pub mod Asks
-pub mod Blocks
+pub mod Helds
 pub mod Gives
-pub mod Switches

@@ -17,15 +17,18 @@ use Rattle.facts.specs.Call.{HasCall}
 abbrev pub asking : ℕ → ℕ → ℕ → Call
 asking size wait deadline = record { stage = ASKED; size = size; wait = wait; deadline = deadline; level = 0; block = 0 }
 
+-- the thread's blocks can be looked up
+pub record Owned (s : Shape) (states owners : List ℕ) (t : ℕ) : Type 0 where
+  pub shape : allowed s ≡ true
+  pub whole : length states ≡ blocks s
+  pub owned : length owners ≡ blocks s
+  pub small : t < 8
+
 pub record GivesBlock (s : Shape) (states owners calls : List ℕ) (t l b : ℕ) : Type 0 where
   pub mine : HasCall calls t
   pub block : HasBlock s states l b
   pub owned : length owners ≡ blocks s
-  pub small : t < 8
 
 pub record Gives (s : Shape) (states owners calls : List ℕ) (t : ℕ) : Type 0 where
-  pub shape : allowed s ≡ true
+  pub owned : Owned s states owners t
   pub mine : HasCall calls t
-  pub whole : length states ≡ blocks s
-  pub owned : length owners ≡ blocks s
-  pub small : t < 8

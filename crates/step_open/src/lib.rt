@@ -1,5 +1,4 @@
-// The steps that open a call, switch threads or raise the clock, on tables that are known to be valid.
+// The steps that open a call, on tables that are known to be valid.
 pub mod ask;
 pub mod give;
-pub mod switch;
-pub mod tick;
+pub mod held;

@@ -13,13 +13,13 @@ use Rattle.rules.specs.Steps.{Outcome, merges, mergeStep, settleStep, releaseSt
 
 module _ (s : Shape) (T : State) (t : ℕ) (c : Call) {o : Outcome} where
   pub with-buddies :
-      {m : Bool} → m ≡ merges s (T .states) (c .level) (c .block) → m ≡ true → o ≡ mergeStep s T t c →
+      {m : Bool} → m ≡ merges s (T .pool .states) (c .level) (c .block) → m ≡ true → o ≡ mergeStep s T t c →
       o ≡ releaseStep s T t c
   unfolding releaseStep
   with-buddies g h e = rw (e, ← g, h)
 
   pub alone :
-      {m : Bool} → m ≡ merges s (T .states) (c .level) (c .block) → m ≡ false → o ≡ settleStep s T t c →
+      {m : Bool} → m ≡ merges s (T .pool .states) (c .level) (c .block) → m ≡ false → o ≡ settleStep s T t c →
       o ≡ releaseStep s T t c
   unfolding releaseStep
   alone g h e = rw (e, ← g, h)

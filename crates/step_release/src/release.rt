@@ -50,7 +50,6 @@ pub fn settle_step(
     tables_pool::append(s, lists, l, b);
     tables_threads::call::put_call(calls, t, Call::closed());
     let woken = tables_threads::wake::wake_all(calls, queue);
-    tables_threads::queue::empty(queue);
     Answer::Settled(woken)
 }
 

@@ -44,7 +44,7 @@ zeros (suc k) (suc i) = zeros k i
 pub tops-free :
     (s : Shape) (xs : List ℕ) {ys zs : List ℕ} → length xs ≡ blocks s →
     ys ≡ replicate (length xs) NOEXIST ++ drop (length xs) xs → zs ≡ replicate (s .tops) FREE ++ drop (s .tops) ys →
-    zs ≡ fresh s .states
+    zs ≡ fresh s .pool .states
 unfolding fresh
 tops-free s xs whole e f =
     f
@@ -106,9 +106,9 @@ module _ (s : Shape) (shape : allowed s ≡ true) where
 
 -- tables that are fresh one by one
 pub tables-fresh :
-    (s : Shape) (T : State) {states owners lists calls queue : List ℕ} → LengthFacts s T → states ≡ fresh s .states →
-    owners ≡ replicate (length (T .owners)) 0 → lists ≡ fresh s .lists → calls ≡ replicate (length (T .calls)) 0 →
-    queue ≡ replicate (length (T .queue)) 0 → state states owners lists calls queue (fresh s .device) ≡ fresh s
+    (s : Shape) (T : State) {states owners lists calls queue : List ℕ} → LengthFacts s T → states ≡ fresh s .pool .states →
+    owners ≡ replicate (length (T .pool .owners)) 0 → lists ≡ fresh s .pool .lists → calls ≡ replicate (length (T .threads .calls)) 0 →
+    queue ≡ replicate (length (T .threads .queue)) 0 → state states owners lists calls queue (fresh s .threads .device) ≡ fresh s
 unfolding fresh
 tables-fresh s T n states owners lists calls queue =
     rw (states, owners, lists, calls, queue, n .owners, n .calls, n .queue)

@@ -57,7 +57,7 @@ fn clear_calls(calls: &mut [u64])
 // The top blocks are FREE, and no others exist.
 fn free_tops(s: Shape, states: &mut [u8])
     requires { ⌜ (allowed s ≡ true) × (length (now states) ≡ blocks s) ⌝ }
-    ensures { λ r. ⌜ now (states .exit) ≡ fresh s .states ⌝ }
+    ensures { λ r. ⌜ now (states .exit) ≡ fresh s .pool .states ⌝ }
 {
     let blocks = states.len();
     fill(states, blocks, NOEXIST);
@@ -67,7 +67,7 @@ fn free_tops(s: Shape, states: &mut [u8])
 // Lists the top blocks, 0 upward, and no others.
 fn list_tops(s: Shape, lists: &mut [u16])
     requires { ⌜ (allowed s ≡ true) × (length (now lists) ≡ s .levels + blocks s) ⌝ }
-    ensures { λ r. ⌜ now (lists .exit) ≡ fresh s .lists ⌝ }
+    ensures { λ r. ⌜ now (lists .exit) ≡ fresh s .pool .lists ⌝ }
 {
     clear_lists(lists);
     let mut b = 0;
@@ -86,8 +86,8 @@ pub fn make_fresh(
     calls: &mut [u64],
     queue: &mut [u8],
 )
-    requires { ⌜ (allowed s ≡ true) × LengthFacts s (state (now states) (now owners) (now lists) (now calls) (now queue) (fresh s .device)) ⌝ }
-    ensures { λ r. ⌜ state (now (states .exit)) (now (owners .exit)) (now (lists .exit)) (now (calls .exit)) (now (queue .exit)) (fresh s .device) ≡ fresh s ⌝ }
+    requires { ⌜ (allowed s ≡ true) × LengthFacts s (state (now states) (now owners) (now lists) (now calls) (now queue) (fresh s .threads .device)) ⌝ }
+    ensures { λ r. ⌜ state (now (states .exit)) (now (owners .exit)) (now (lists .exit)) (now (calls .exit)) (now (queue .exit)) (fresh s .threads .device) ≡ fresh s ⌝ }
 {
     free_tops(s, states);
     clear(owners);

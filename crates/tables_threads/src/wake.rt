@@ -12,10 +12,10 @@ ghost use Rattle.rules.specs.Tables.{queueOf, putQueue};
 ghost use Rattle.rules.specs.Steps.{wake};
 ghost use Rattle.rules.specs.Calls.{due};
 ghost use Rattle.facts.specs.Queue.{QueueReady};
-ghost use Rattle.facts.specs.Wake.{MembersInside, DueAwake};
+ghost use Rattle.facts.specs.Wake.{MembersInside, AllAwake, DueAwake};
 
 // Every thread that the queue names becomes ready and asked; their number is answered.
-pub fn wake_all(calls: &mut [u64], queue: &[u8]) -> usize
+fn wake_queued(calls: &mut [u64], queue: &[u8]) -> usize
     requires { ⌜ MembersInside (now calls) (now queue) ⌝ }
     ensures { λ r.
         ⌜ (now (calls .exit) ≡ wake (now (calls .entry)) (queueOf (now (queue .entry))))
@@ -29,6 +29,16 @@ pub fn wake_all(calls: &mut [u64], queue: &[u8]) -> usize
         i += 1;
     }
     end
+}
+
+// Every waiting thread becomes ready and asked, and the queue is empty; their number is answered.
+pub fn wake_all(calls: &mut [u64], queue: &mut [u8]) -> usize
+    requires { ⌜ MembersInside (now calls) (now queue) ⌝ }
+    ensures { λ r. ⌜ AllAwake (now (calls .entry)) (now (queue .entry)) (now (calls .exit)) (now (queue .exit)) r ⌝ }
+{
+    let woken = wake_queued(calls, queue);
+    crate::queue::empty(queue);
+    woken
 }
 
 // Thread t waits for a time, and this is it.

@@ -38,7 +38,7 @@ returns-2 : tie.Need-returns-2
 returns-2 c = lengths-refused (c .before .before .before .before .before .before .before .before .before .before .before .before .before .before .args .s) (state (now (c .before .before .before .before .before .before .before .before .before .before .before .before .before .before .args .states)) (now (c .before .before .before .before .before .before .before .before .before .before .before .before .before .before .args .owners)) (now (c .before .before .before .before .before .before .before .before .before .before .before .before .before .before .args .lists)) (now (c .before .before .before .before .before .before .before .before .before .before .before .before .before .before .args .calls)) (now (c .before .before .before .before .before .before .before .before .before .before .before .before .before .before .args .queue)) (c .before .before .before .before .before .before .before .before .before .before .before .before .before .before .args .d)) (c .before .before .before .before .before .before .before .before .allowed .ensures) (c .before .before .before .before .before .before .before .if1 .left) (c .before .lengths .ensures (c .before .before .before .before .before .before .before .before .before .before .before .before .before .before .args .d)) (c .if2 .taken)
 
 make-fresh-requires : tie.Need-make-fresh-requires
-make-fresh-requires c κs = (sym (c .before .before .before .before .before .before .before .before .before .before .before .before .before .allowed .ensures) ∙ not-false (c .before .before .before .before .before .before .before .before .before .before .before .before .before .allowed .result) (c .before .before .before .before .before .before .before .before .before .before .before .before .if1 .left), length-facts (c .before .before .before .before .before .before .before .before .before .before .before .before .before .before .before .before .before .before .before .args .s) (state (now (c .before .before .before .before .before .before .before .before .before .before .before .before .before .before .before .before .before .before .before .args .states)) (now (c .before .before .before .before .before .before .before .before .before .before .before .before .before .before .before .before .before .before .before .args .owners)) (now (c .before .before .before .before .before .before .before .before .before .before .before .before .before .before .before .before .before .before .before .args .lists)) (now (c .before .before .before .before .before .before .before .before .before .before .before .before .before .before .before .before .before .before .before .args .calls)) (now (c .before .before .before .before .before .before .before .before .before .before .before .before .before .before .before .before .before .before .before .args .queue)) (fresh (c .before .before .before .before .before .before .before .before .before .before .before .before .before .before .before .before .before .before .before .args .s) .device)) (sym (c .before .before .before .before .before .before .lengths .ensures (fresh (c .before .before .before .before .before .before .before .before .before .before .before .before .before .before .before .before .before .before .before .args .s) .device)) ∙ not-false (c .before .before .before .before .before .before .lengths .result) (c .before .before .before .before .before .if2 .left)))
+make-fresh-requires c κs = (sym (c .before .before .before .before .before .before .before .before .before .before .before .before .before .allowed .ensures) ∙ not-false (c .before .before .before .before .before .before .before .before .before .before .before .before .before .allowed .result) (c .before .before .before .before .before .before .before .before .before .before .before .before .if1 .left), length-facts (c .before .before .before .before .before .before .before .before .before .before .before .before .before .before .before .before .before .before .before .args .s) (state (now (c .before .before .before .before .before .before .before .before .before .before .before .before .before .before .before .before .before .before .before .args .states)) (now (c .before .before .before .before .before .before .before .before .before .before .before .before .before .before .before .before .before .before .before .args .owners)) (now (c .before .before .before .before .before .before .before .before .before .before .before .before .before .before .before .before .before .before .before .args .lists)) (now (c .before .before .before .before .before .before .before .before .before .before .before .before .before .before .before .before .before .before .before .args .calls)) (now (c .before .before .before .before .before .before .before .before .before .before .before .before .before .before .before .before .before .before .before .args .queue)) (fresh (c .before .before .before .before .before .before .before .before .before .before .before .before .before .before .before .before .before .before .before .args .s) .threads .device)) (sym (c .before .before .before .before .before .before .lengths .ensures (fresh (c .before .before .before .before .before .before .before .before .before .before .before .before .before .before .before .before .before .before .before .args .s) .threads .device)) ∙ not-false (c .before .before .before .before .before .before .lengths .result) (c .before .before .before .before .before .if2 .left)))
 
 same-length-6 : tie.Need-same-length-6
 same-length-6 c = search needs

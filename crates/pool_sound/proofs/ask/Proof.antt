@@ -17,7 +17,11 @@ enum-told : tie.Need-enum-told
 enum-told c = search needs
 
 ask-step-requires : tie.Need-ask-step-requires
-ask-step-requires c κs = has-call (c .before .before .before .before .before .args .s) (c .before .before .before .before .before .args .d) (c .before .before .before .before .before .args .t) (c .before .before .before .may-step .ensures) (c .before .enum-told .given .1) (now (c .before .before .before .before .before .args .calls)) (c .before .before .before .before .before .pre)
+ask-step-requires c κs =
+    let start : tie.Start = search needs in
+    let verdict : tie.After-may-step = search needs in
+    let told : tie.After-enum-told = search needs in
+    has-call (start .args .s) (start .args .d) (start .args .t) (verdict .may-step .ensures) (told .enum-told .given .1) (start .pre .4)
 
 returns : tie.Need-returns
 returns c = λ states owners lists queue g. ask-refused g (c .before .before .before .before .before .args .t) (c .before .before .before .may-step .ensures) (c .before .before .before .before .before .args .size) (c .before .before .before .before .before .args .wait) (c .before .v .given .1)

@@ -16,7 +16,11 @@ enum-told : tie.Need-enum-told
 enum-told c = search needs
 
 give-step-requires : tie.Need-give-step-requires
-give-step-requires c κs = may-give (c .before .before .before .before .before .before .before .before .before .args .s) (c .before .before .before .before .before .before .before .before .before .args .d) (c .before .before .before .before .before .before .before .before .before .args .t) (c .before .before .before .before .before .may-step .ensures) (c .before .before .before .enum-told .given .1) (c .before .before .before .before .before .before .before .before .before .pre)
+give-step-requires c κs =
+    let start : tie.Start = search needs in
+    let verdict : tie.After-may-step = search needs in
+    let told : tie.After-enum-told = search needs in
+    may-give (start .args .s) (start .args .d) (start .args .t) (verdict .may-step .ensures) (told .enum-told .given .1) (start .pre .2)
 
 returns : tie.Need-returns
 returns c = λ lists queue g. give-refused g (c .before .before .before .before .before .before .before .args .t) (c .before .before .before .may-step .ensures) (c .before .before .before .before .before .before .before .args .id) (c .before .v .given .1)

@@ -1,7 +1,6 @@
 -- `pool_sound::go_on` meets its contract: a thread that may not step or has no call is refused, and any other has what the step needs.
 -- Assumes nothing.
 use denote.Ref.{now}
-use Rattle.pool_sound.specs.Sound.{calls-length}
 use Rattle.pool_sound.proofs.Threads.{has-call, may-go-on}
 use Rattle.pool_sound.proofs.Outcomes.{go-on-refused, no-call, goes}
 use borrow.Author.Needs.{needs}
@@ -18,7 +17,11 @@ enum-told : tie.Need-enum-told
 enum-told c = search needs
 
 call-of-requires : tie.Need-call-of-requires
-call-of-requires c κs = has-call (c .before .before .before .before .before .before .before .before .before .args .s) (c .before .before .before .before .before .before .before .before .before .args .d) (c .before .before .before .before .before .before .before .before .before .args .t) (c .before .before .before .may-step .ensures) (c .before .enum-told .given .1) (now (c .before .before .before .before .before .before .before .before .before .args .calls)) (calls-length (c .before .before .before .before .before .before .before .before .before .pre))
+call-of-requires c κs =
+    let start : tie.Start = search needs in
+    let verdict : tie.After-may-step = search needs in
+    let told : tie.After-enum-told = search needs in
+    has-call (start .args .s) (start .args .d) (start .args .t) (verdict .may-step .ensures) (told .enum-told .given .1) (start .pre)
 
 same-length : tie.Need-same-length
 same-length c = search needs
@@ -27,7 +30,14 @@ returns : tie.Need-returns
 returns c = no-call (c .before .before .before .before .before .before .before .before .before .before .before .before .pre) (c .before .before .before .before .before .before .before .before .before .before .before .before .args .t) (c .before .before .before .before .before .before .may-step .ensures) (c .before .before .before .before .enum-told .given .1) (c .before .before .call-of .ensures) (c .if1 .taken)
 
 go-on-step-requires : tie.Need-go-on-step-requires
-go-on-step-requires c κs = may-go-on (c .before .before .before .before .before .before .before .before .before .before .before .before .before .before .before .before .before .args .s) (c .before .before .before .before .before .before .before .before .before .before .before .before .before .before .before .before .before .args .d) (c .before .before .before .before .before .before .before .before .before .before .before .before .before .before .before .before .before .args .t) (c .before .before .before .before .before .before .before .before .before .before .before .may-step .ensures) (c .before .before .before .before .before .before .before .before .before .enum-told .given .1) (c .before .before .before .before .before .before .before .before .before .before .before .before .before .before .before .before .before .pre) (c .before .before .before .before .before .before .before .call-of .ensures) (c .before .before .before .before .before .if1 .left)
+go-on-step-requires c κs =
+    let start : tie.Start = search needs in
+    let verdict : tie.After-may-step = search needs in
+    let told : tie.After-enum-told = search needs in
+    let call : tie.After-call-of = search needs in
+    let isOpen : tie.Else1 = search needs in
+    may-go-on (start .args .s) (start .args .d) (start .args .t) (verdict .may-step .ensures) (told .enum-told .given .1) (start .pre) (call .call-of .ensures)
+    (isOpen .if1 .left)
 
 returns-2 : tie.Need-returns-2
 returns-2 c = go-on-refused (c .before .before .before .before .before .before .before .before .before .pre) (c .before .before .before .before .before .before .before .before .before .args .t) (c .before .before .before .may-step .ensures) (c .before .v .given .1)

@@ -1,13 +1,15 @@
 -- `pool_sound::tick` meets its contract: on sound tables the rule is its step, and the queue has the shape's length.
 -- Assumes nothing.
-use Rattle.pool_sound.specs.Sound.{right-lengths}
+use Rattle.pool_sound.specs.Sound.{right-lengths, queue-ready, members-inside}
 use Rattle.pool_sound.proofs.Outcomes.{ticks}
 use borrow.Author.Needs.{needs}
 use Rattle.pool_sound.proofs.tick.Statement.{statement}
 use Rattle.pool_sound.proofs.tick.Tie as tie
 
 tick-step-requires : tie.Need-tick-step-requires
-tick-step-requires c κs = (c .before .before .before .before .pre .ready, c .before .before .before .before .pre .members)
+tick-step-requires c κs =
+    let start : tie.Start = search needs in
+    (queue-ready (start .pre .3), members-inside (start .pre .3))
 
 same-length : tie.Need-same-length
 same-length c = search needs

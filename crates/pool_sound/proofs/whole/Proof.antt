@@ -1,11 +1,15 @@
 -- `pool_sound::whole` meets its contract: on sound tables the rule is its test.
 -- Assumes nothing.
+use borrow.Author.Needs.{needs}
 use Rattle.pool_sound.proofs.Outcomes.{answers}
 use Rattle.pool_sound.proofs.whole.Statement.{statement}
 use Rattle.pool_sound.proofs.whole.Tie as tie
+use Rattle.pool_sound.specs.Sound.{right-lengths}
 
 is-whole-requires : tie.Need-is-whole-requires
-is-whole-requires c κs = (c .before .before .pre .shape, c .before .before .pre .whole, c .before .before .pre .threads)
+is-whole-requires c κs =
+    let start : tie.Start = search needs in
+    (start .pre .4 .shape, right-lengths (start .pre .4) .states, right-lengths (start .pre .4) .calls)
 
 returns : tie.Need-returns
 returns c = λ owners lists queue d g. answers g (c .before .is-whole .ensures owners lists queue d) (c .if1 .taken)

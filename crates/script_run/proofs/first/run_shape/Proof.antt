@@ -17,7 +17,7 @@ abbrev start : tie.After-lengths-of → tie.Start
 start c = c .before .before .before .before .before .before .before .before .before .before
 
 abbrev tables : tie.Start → State
-tables b = state (now (b .args .states)) (now (b .args .owners)) (now (b .args .lists)) (now (b .args .calls)) (now (b .args .queue)) (fresh (b .args .s) .device)
+tables b = state (now (b .args .states)) (now (b .args .owners)) (now (b .args .lists)) (now (b .args .calls)) (now (b .args .queue)) (fresh (b .args .s) .threads .device)
 
 is-allowed : (c : tie.After-lengths-of) → allowed (start c .args .s) ≡ true
 is-allowed c = sym (c .before .before .allowed .ensures) ∙ not-false (c .before .before .allowed .result) (c .before .if1 .left)

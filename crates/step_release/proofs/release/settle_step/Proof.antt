@@ -12,6 +12,21 @@ use Rattle.step_release.proofs.Moves.{settled}
 use Rattle.step_release.proofs.release.settle_step.Statement.{statement}
 use Rattle.step_release.proofs.release.settle_step.Tie as tie
 
+abbrev call : tie.After-wake-all → tie.After-put-call
+call c = search needs
+
+abbrev closed : tie.After-wake-all → tie.After-closed
+closed c = search needs
+
+abbrev list : tie.After-wake-all → tie.After-append
+list c = search needs
+
+abbrev state : tie.After-wake-all → tie.After-put-state
+state c = search needs
+
+abbrev first : tie.After-wake-all → tie.Start
+first c = search needs
+
 put-state-requires : tie.Need-put-state-requires
 put-state-requires c κs = search needs
 
@@ -25,10 +40,13 @@ put-call-requires : tie.Need-put-call-requires
 put-call-requires c κs = search needs
 
 wake-all-requires : tie.Need-wake-all-requires
-wake-all-requires c κs = inside-same (now (c .before .before .before .before .before .before .before .before .before .before .before .before .before .before .before .before .before .before .before .args .calls)) _ (now (c .before .before .before .before .before .before .before .before .before .before .before .before .before .before .before .before .before .before .before .args .queue)) (ap length (c .before .before .before .before .put-call .ensures) ∙ length-putCall (now (c .before .before .before .before .before .before .before .before .before .before .before .before .before .before .before .before .before .before .before .args .calls)) (c .before .before .before .before .before .before .before .before .before .before .before .before .before .before .before .before .before .before .before .args .t) (c .before .before .before .before .before .closed .result)) (c .before .before .before .before .before .before .before .before .before .before .before .before .before .before .before .before .before .before .before .pre .members)
-
-empty-requires : tie.Need-empty-requires
-empty-requires c κs = search needs
+wake-all-requires c κs =
+    let start : tie.Start = search needs in
+    let closed : tie.After-closed = search needs in
+    let call : tie.After-put-call = search needs in
+    inside-same (now (start .args .calls)) _ (now (start .args .queue))
+    (ap length (call .put-call .ensures) ∙ length-putCall (now (start .args .calls)) (start .args .t) (closed .closed .result))
+    (start .pre .members)
 
 same-length : tie.Need-same-length
 same-length c = search needs
@@ -45,8 +63,12 @@ same-length-4 c = search needs
 returns : tie.Need-returns
 returns c =
     λ owners d.
-    settled (c .before .before .before .before .before .before .before .before .before .before .before .before .before .before .before .before .before .before .before .before .before .before .before .before .before .before .args .s) (now (c .before .before .before .before .before .before .before .before .before .before .before .before .before .before .before .before .before .before .before .before .before .before .before .before .before .before .args .states)) owners (now (c .before .before .before .before .before .before .before .before .before .before .before .before .before .before .before .before .before .before .before .before .before .before .before .before .before .before .args .lists)) (now (c .before .before .before .before .before .before .before .before .before .before .before .before .before .before .before .before .before .before .before .before .before .before .before .before .before .before .args .calls)) (now (c .before .before .before .before .before .before .before .before .before .before .before .before .before .before .before .before .before .before .before .before .before .before .before .before .before .before .args .queue)) d (c .before .before .before .before .before .before .before .before .before .before .before .before .before .before .before .before .before .before .before .before .before .before .before .before .before .before .args .t) (c .before .before .before .before .before .before .before .before .before .before .before .before .before .before .before .before .before .before .before .before .before .before .before .before .before .before .args .c)
-    (c .before .before .before .before .before .before .before .before .before .before .before .before .before .before .before .before .before .before .before .before .put-state .ensures) (c .before .before .before .before .before .before .before .before .before .before .before .before .before .before .before .before .append .ensures) (c .before .before .before .before .before .before .before .before .before .before .before .put-call .ensures) (c .before .before .before .before .before .before .before .before .before .before .before .before .closed .ensures) (c .before .before .before .before .before .before .wake-all .ensures .0) (c .before .before .before .before .before .before .wake-all .ensures .1) (c .before .before .empty .ensures) (c .before .before .before .before .before .before .before .before .before .before .before .before .before .before .before .before .before .before .before .before .before .before .before .before .before .before .pre .threads)
+    let woken : tie.After-wake-all = search needs in
+    let start : tie.Start = first woken in
+    let all = woken .wake-all .ensures in
+    settled (start .args .s) (now (start .args .states)) owners (now (start .args .lists)) (now (start .args .calls))
+    (now (start .args .queue)) d (start .args .t) (start .args .c) (state woken .put-state .ensures) (list woken .append .ensures)
+    (call woken .put-call .ensures) (closed woken .closed .ensures) (all .awake) (all .number) (all .queued) (start .pre .threads)
 
 pub settle-step-spec : {M : Type 1} → statement M
 settle-step-spec =
@@ -57,7 +79,6 @@ settle-step-spec =
     closed-requires
     put-call-requires
     wake-all-requires
-    empty-requires
     same-length
     same-length-2
     same-length-3

@@ -1,10 +1,10 @@
--- `step_open::tick::tick_step` meets its contract: what waking on the new clock leaves is what the rule names.
+-- `step_device::tick::tick_step` meets its contract: what waking on the new clock leaves is what the rule names.
 -- Assumes nothing.
 use borrow.Author.Needs.{needs}
 use denote.Ref.{now}
-use Rattle.step_open.proofs.Gives.{clock-at-end, ticks}
-use Rattle.step_open.proofs.tick.tick_step.Statement.{statement}
-use Rattle.step_open.proofs.tick.tick_step.Tie as tie
+use Rattle.step_device.proofs.Ticks.{clock-at-end, ticks}
+use Rattle.step_device.proofs.tick.tick_step.Statement.{statement}
+use Rattle.step_device.proofs.tick.tick_step.Tie as tie
 
 returns : tie.Need-returns
 returns c = λ s states owners lists h. clock-at-end s states owners lists (now (c .before .before .before .args .calls)) (now (c .before .before .before .args .queue)) (c .before .before .before .args .d) (c .if1 .taken)

@@ -1,4 +1,4 @@
--- `wake_all` meets its contract. The loop's invariant: the first i of the queue's members are awake (`wake-next`), and the table is as long as
+-- `wake_queued` meets its contract. The loop's invariant: the first i of the queue's members are awake (`wake-next`), and the table is as long as
 -- it was; the first `end` of them are all (`queueOf-all`). Assumes nothing.
 use mathlib.Core.Path.{_≡_, refl, sym, _∙_, ap}
 use Prim.Native.Nat.{_+_, _-_, _≤_}
@@ -8,8 +8,8 @@ use Rattle.rules.specs.Tables.{queueOf}
 use Rattle.rules.specs.Steps.{wake}
 use Rattle.facts.specs.Queue.{length-queueOf, queueOf-all}
 use Rattle.facts.specs.Wake.{wake-none, wake-next}
-use Rattle.tables_threads.proofs.wake.wake_all.Statement.{statement}
-use Rattle.tables_threads.proofs.wake.wake_all.Tie as tie
+use Rattle.tables_threads.proofs.wake.wake_queued.Statement.{statement}
+use Rattle.tables_threads.proofs.wake.wake_queued.Tie as tie
 
 abbrev Inv-loop : tie.InvT-loop
 Inv-loop calls₀ queue end i₀ calls i =
@@ -74,8 +74,8 @@ returns c =
       sym (length-queueOf (a .args .queue .now) (a .pre .fits)),
     )
 
-pub wake-all-spec : {M : Type 1} → statement M
-wake-all-spec =
+pub wake-queued-spec : {M : Type 1} → statement M
+wake-queued-spec =
     tie.close
     (tie.spec
     Inv-loop

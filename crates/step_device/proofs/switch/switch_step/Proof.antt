@@ -1,12 +1,12 @@
--- `step_open::switch::switch_step` meets its contract: at each return the tests that led there say which outcome the rule has.
+-- `step_device::switch::switch_step` meets its contract: at each return the tests that led there say which outcome the rule has.
 -- Assumes nothing.
 use native.Mathlib.Omega.{arith}
 use borrow.Author.Needs.{needs}
 use denote.Ref.{now}
 use Rattle.shape.specs.Laws.{limits}
-use Rattle.step_open.proofs.Switches.{no-thread, blocked, runs}
-use Rattle.step_open.proofs.switch.switch_step.Statement.{statement}
-use Rattle.step_open.proofs.switch.switch_step.Tie as tie
+use Rattle.step_device.proofs.Switches.{no-thread, blocked, runs}
+use Rattle.step_device.proofs.switch.switch_step.Statement.{statement}
+use Rattle.step_device.proofs.switch.switch_step.Tie as tie
 
 returns : tie.Need-returns
 returns c = λ states owners lists queue. no-thread (c .before .before .before .args .s) states owners lists (now (c .before .before .before .args .calls)) queue (c .before .before .before .args .d) (c .before .before .before .args .t) (c .if1 .taken)
