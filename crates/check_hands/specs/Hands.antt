@@ -3,14 +3,14 @@
 use mathlib.Core.Path.{_≡_, refl, sym, _∙_, ap, ap₂}
 use mathlib.Core.Bool.{Bool, true, false, not, _&&_, _||_}
 use mathlib.Core.List.{List}
-use Prim.Native.Nat.{ℕ, _+_, _*_, _<_}
+use Prim.Native.Nat.{ℕ, _*_, _≤_, _<_}
 use native.Mathlib.Omega.{arith}
 use lib.ListN.{length, getD}
 use lib.Dec.{eqb}
 use borrow.Author.Tests.{eqb-true, eq-eqb}
 use Rattle.laws.specs.Tests.{bit, both, both-of, every, every-at, every-of, every-same, tally, tally-same}
 use Rattle.laws.specs.Times.{same-test}
-use Rattle.laws.specs.Counts.{holders as holdersAt, alone, held-once}
+use Rattle.laws.specs.Counts.{holders as holdersAt, alone, held-fewer, held-once}
 use Rattle.shape.specs.declared.Shape.{Shape}
 use Rattle.shape.specs.Limits.{allowed}
 use Rattle.shape.specs.Blocks.{count, place, blocks}
@@ -21,7 +21,7 @@ use Rattle.rules.specs.Numbers.{CELLS}
 use Rattle.rules.specs.Tables.{stateAt, callOf}
 use Rattle.rules.specs.Valid.{usesBlock, handInside, inHand, oneToOne, callsKept}
 use Rattle.facts.specs.Given.{call-facts, hand-inside}
-use Rattle.check_counts.specs.Counted.{inState, counted}
+use Rattle.check_counts.specs.Counted.{inState}
 
 -- every call's block in hand is a block of the shape
 unfoldable pub handsInside : Shape → List ℕ → Bool
@@ -40,19 +40,29 @@ atStage stage c = eqb (c .stage) stage
 abbrev pub holders : Shape → List ℕ → (Call → Bool) → ℕ → ℕ → ℕ
 holders s calls test l b = tally (s .threads) (λ t. inHand test l b (callOf calls t))
 
--- where a call passes, its block in hand is in this state, and no other such call has it
-abbrev pub handAlone : Shape → List ℕ → List ℕ → ℕ → (Call → Bool) → Call → Bool
-handAlone s states calls st test c =
-    not (test c) || (eqb (stateAt s states (c .level) (c .block)) st && eqb (holders s calls test (c .level) (c .block)) 1)
+-- a call's block in hand is in this state, and no other call that passes has it
+abbrev pub aloneWith : Shape → List ℕ → List ℕ → ℕ → (Call → Bool) → Call → Bool
+aloneWith s states calls st test c =
+    eqb (stateAt s states (c .level) (c .block)) st && eqb (holders s calls test (c .level) (c .block)) 1
 
--- tables of a shape's lengths, and the block in hand of each call that passes is a block of the shape
-pub record Hands (s : Shape) (states calls : List ℕ) (test : Call → Bool) : Type 0 where
+-- which is asked of calls that pass
+abbrev pub handAlone : Shape → List ℕ → List ℕ → ℕ → (Call → Bool) → Call → Bool
+handAlone s states calls st test c = not (test c) || aloneWith s states calls st test c
+
+-- the block in hand is a block of the shape
+abbrev pub handKnown : Shape → Call → Type 0
+handKnown s c = (c .level < s .levels) × (c .block < count s (c .level))
+
+-- tables of a shape's lengths
+pub record Lent (s : Shape) (states calls : List ℕ) : Type 0 where
   pub shape : allowed s ≡ true
   pub states-long : length states ≡ blocks s
   pub calls-long : length calls ≡ CELLS * s .threads
-  pub inside :
-      (t : ℕ) → t < s .threads → test (callOf calls t) ≡ true →
-      (callOf calls t .level < s .levels) × (callOf calls t .block < count s (callOf calls t .level))
+
+-- and the block in hand of each call that passes is a block of the shape
+pub record Hands (s : Shape) (states calls : List ℕ) (test : Call → Bool) : Type 0 where
+  pub lent : Lent s states calls
+  pub inside : (t : ℕ) → t < s .threads → test (callOf calls t) ≡ true → handKnown s (callOf calls t)
 
 pub hands :
     (s : Shape) (states calls : List ℕ) (test : Call → Bool) → ((c : Call) → test c ≡ true → usesBlock c ≡ true) →
@@ -61,16 +71,14 @@ pub hands :
 unfolding handsInside
 hands s states calls test u h =
     record {
-      shape = h .0;
-      states-long = h .1;
-      calls-long = h .2;
+      lent = record { shape = h .0; states-long = h .1; calls-long = h .2 };
       inside = λ t l e. hand-inside s (callOf calls t) (every-at (s .threads) _ (h .3) t l) (u (callOf calls t) e);
     }
 
 -- the block in hand of a call that passes
 pub hand-at :
     {s : Shape} {states calls : List ℕ} {test : Call → Bool} → Hands s states calls test → (t : ℕ) (c : Call) →
-    c ≡ callOf calls t → t < s .threads → test c ≡ true → (c .level < s .levels) × (c .block < count s (c .level))
+    c ≡ callOf calls t → t < s .threads → test c ≡ true → handKnown s c
 hand-at h t c e l q = rw e (h .inside t l (rw e at q))
 
 -- the place of a thread's block in hand
@@ -131,13 +139,13 @@ module _ (s : Shape) (states calls : List ℕ) (test : Call → Bool) (h : Hands
   -- as many blocks of a state as calls that pass, and each of these alone with a block of that state: then one to one
   pub corresponds :
       (st : ℕ) →
-      (eqb (counted states st) (tally (s .threads) (λ t. test (callOf calls t)))
+      (eqb (tally (length states) (inState states st)) (tally (s .threads) (λ t. test (callOf calls t)))
       && every (s .threads) (λ t. handAlone s states calls st test (callOf calls t)))
-      ≡ every (s .levels) (λ l. every (count s l) (λ b. eqb (holders s calls test l b) (bit (eqb (stateAt s states l b) st))))
-  unfolding blocks
+      ≡ oneToOne st test s states calls
+  unfolding blocks oneToOne
   corresponds st =
       ap₂ _&&_
-      (ap (λ (n : ℕ). eqb (tally n (inState states st)) (tally (s .threads) (λ t. test (callOf calls t)))) (h .states-long))
+      (ap (λ (n : ℕ). eqb (tally n (inState states st)) (tally (s .threads) (λ t. test (callOf calls t)))) (h .lent .states-long))
       (every-same (s .threads) _ _ (alone-by-place st))
       ∙ held-once (blocks s) (s .threads) (inState states st) (λ t. test (callOf calls t)) (handPlace s calls)
       (λ t m e. place-inside s _ _ (h .inside t m e .0) (h .inside t m e .1))
@@ -145,3 +153,13 @@ module _ (s : Shape) (states calls : List ℕ) (test : Call → Bool) (h : Hands
       ∙ every-same (s .levels) _ _ (λ l i.
       every-same (count s l) _ _ (λ b k.
       ap (λ (n : ℕ). eqb n (bit (eqb (stateAt s states l b) st))) (sym (holders-by-place l b k))))
+
+  -- where each is alone, the calls are not more than the blocks
+  pub alone-fewer :
+      (st : ℕ) → every (s .threads) (λ t. handAlone s states calls st test (callOf calls t)) ≡ true →
+      tally (s .threads) (λ t. test (callOf calls t)) ≤ tally (length states) (inState states st)
+  alone-fewer st e =
+      rw (h .lent .states-long)
+      (held-fewer (blocks s) (s .threads) (inState states st) (λ t. test (callOf calls t)) (handPlace s calls)
+      (λ t m e. place-inside s _ _ (h .inside t m e .0) (h .inside t m e .1))
+      (sym (every-same (s .threads) _ _ (alone-by-place st)) ∙ e))

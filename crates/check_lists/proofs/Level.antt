@@ -10,13 +10,13 @@ use lib.ListN.{length, getD, take, drop, length-drop}
 use lib.Seq.{getD-drop, take-all, length-take-le}
 use lib.Dec.{eqb, ltb, leb}
 use borrow.Author.Tests.{ltb-true, le-ltb, lt-ltb, le-leb, lt-leb}
-use Rattle.laws.specs.Tests.{every, every-at, every-of, every-same}
+use Rattle.laws.specs.Tests.{every, every-at, every-of, every-same, tally}
 use Rattle.laws.specs.Lists.{times}
 use Rattle.laws.specs.Times.{same-test}
 use Rattle.laws.specs.Counts.{named-once}
 use Rattle.shape.specs.Limits.{mostCount}
 use Rattle.rules.specs.Numbers.{FREE}
-use Rattle.check_counts.specs.Counted.{counted}
+use Rattle.check_counts.specs.Counted.{counted, counted-one}
 use Rattle.check_lists.specs.Level.{zeros, below, ends, free, levelValid}
 use Rattle.check_lists.specs.Marks.{marked, allMarked}
 
@@ -94,11 +94,11 @@ tried-below {states} {cells} {used} t few =
 pub level-marks :
     {states cells : List ℕ} {used : ℕ} (marks : List ℕ) {n : ℕ} {ok : Bool} → Tried states cells used →
     length states ≤ mostCount → ((b : ℕ) → b < mostCount → marked marks b ≡ ltb 0 (times b (take used cells))) →
-    n ≡ counted states FREE → ok ≡ every (length states) (allMarked states marks) → (eqb n used && ok) ≡ levelValid states cells used
+    n ≡ counted states FREE FREE → ok ≡ every (length states) (allMarked states marks) → (eqb n used && ok) ≡ levelValid states cells used
 unfolding levelValid
 level-marks {states} {cells} {used} marks t few m c e =
-    rw (c, e)
-    (ap₂ _&&_ (ap (eqb (counted states FREE)) (sym (length-take-le used cells (t .fits))))
+    rw (c, e, counted-one states FREE)
+    (ap₂ _&&_ (ap (eqb (tally (length states) (free states))) (sym (length-take-le used cells (t .fits))))
     (every-same (length states) _ _ (λ b l. ap (λ (a : Bool). not (free states b) || a) (m b (omega arith))))
     ∙ named-once (length states) (free states) (take used cells) (t .inside)
     ∙ rw (ends-zeros cells used (t .fits), t .rest, t .inside))

@@ -3,7 +3,7 @@
 use mathlib.Core.Path.{_≡_, refl, sym, _∙_, ap, ap₂}
 use mathlib.Core.Bool.{Bool, true, false, _&&_, _||_}
 use mathlib.Core.List.{List}
-use Prim.Native.Nat.{ℕ, max, _+_, _*_, _-_, _/_, _%_, _^_, _≤_, _<_}
+use Prim.Native.Nat.{ℕ, min, max, _+_, _*_, _-_, _/_, _%_, _^_, _≤_, _<_}
 use native.Mathlib.Nat.{add-zero, zero-div}
 use native.Mathlib.Omega.{arith}
 use lib.ListN.{length, getD, set, take, drop, length-set, length-drop, replicate, length-replicate}
@@ -125,23 +125,20 @@ marked-all {members} {marks} {i} m h b l = m .told b l ∙ rw (take-all i member
 -- each FREE block of the first rows is marked, as the flag says
 pub record Rows (states marks : List ℕ) (ok : Bool) (bit from : ℕ) : Type 0 where
   pub inside : from ≤ length states
-  pub start : from ≡ row * bit
+  pub start : from < length states → from ≡ row * bit
   pub told : ok ≡ every from (allMarked states marks)
 
 pub rows-none : (states marks : List ℕ) → Rows states marks true 0 0
-rows-none states marks = record { inside = omega arith; start = omega arith; told = sym (every-none _) }
+rows-none states marks = record { inside = omega arith; start = λ _. omega arith; told = sym (every-none _) }
 
--- one part more
-pub rows-part :
-    {states marks : List ℕ} {ok : Bool} {bit from : ℕ} (to : ℕ) {more : Bool} → Rows states marks ok bit from → from ≤ to →
-    to ≤ from + row → to ≤ length states →
+-- one row more
+pub rows-more :
+    {states marks : List ℕ} {ok : Bool} {bit from to : ℕ} {more : Bool} → Rows states marks ok bit from → from < length states →
+    to ≡ min (from + row) (length states) →
     more ≡ every (length (take (to - from) (drop from states))) (freeMarked (take (to - from) (drop from states)) marks bit) →
-    (ok && more) ≡ every to (allMarked states marks)
-rows-part {states} {marks} {ok} {bit} {from} to r h k l e =
-    rw (r .told, e, long)
-    (ap (λ (a : Bool). every from (allMarked states marks) && a) (every-same (to - from) _ _ here)
-    ∙ sym (every-behind from (to - from) (allMarked states marks))
-    ∙ ap (λ (n : ℕ). every n (allMarked states marks)) ends)
+    Rows states marks (ok && more) (bit + 1) to
+rows-more {states} {marks} {ok} {bit} {from} {to} {more} r h w e =
+    record { inside = omega arith; start = λ l. omega (arith, r .start h); told = told }
   where
     long : length (take (to - from) (drop from states)) ≡ to - from
     long = length-take-le (to - from) (drop from states) (simp length-drop (omega arith))
@@ -153,14 +150,21 @@ rows-part {states} {marks} {ok} {bit} {from} to r h k l e =
         (i : ℕ) → i < to - from →
         freeMarked (take (to - from) (drop from states)) marks bit i ≡ allMarked states marks (from + i)
     here i m =
-        let byte : (from + i) % row ≡ i = omega (arith, r .start) in
-        let at : (from + i) / row ≡ bit = omega (arith, r .start) in
+        let byte : (from + i) % row ≡ i = omega (arith, r .start h) in
+        let at : (from + i) / row ≡ bit = omega (arith, r .start h) in
         rw (byte, at, getD-take (to - from) (drop from states) i 0 m, getD-drop)
 
-pub rows-more :
-    {states marks : List ℕ} {ok : Bool} {bit from : ℕ} {more : Bool} → Rows states marks ok bit from →
-    from + row ≤ length states →
-    more ≡ every (length (take (from + row - from) (drop from states))) (freeMarked (take (from + row - from) (drop from states)) marks bit) →
-    Rows states marks (ok && more) (bit + 1) (from + row)
-rows-more {from = from} r h e =
-    record { inside = h; start = omega (arith, r .start); told = rows-part (from + row) r (omega arith) (omega arith) h e }
+    told : (ok && more) ≡ every to (allMarked states marks)
+    told =
+        rw (r .told, e, long)
+        (ap (λ (a : Bool). every from (allMarked states marks) && a) (every-same (to - from) _ _ here)
+        ∙ sym (every-behind from (to - from) (allMarked states marks))
+        ∙ ap (λ (n : ℕ). every n (allMarked states marks)) ends)
+
+-- all rows
+pub rows-all :
+    {states marks : List ℕ} {ok : Bool} {bit from : ℕ} → Rows states marks ok bit from → length states ≤ from →
+    ok ≡ every (length states) (allMarked states marks)
+rows-all {states} {marks} {from = from} r h =
+    let q : from ≡ length states = omega (arith, r .inside) in
+    r .told ∙ ap (λ (n : ℕ). every n (allMarked states marks)) q

@@ -57,7 +57,7 @@ fn level_valid(states: &[u8], cells: &[u16], used: u16) -> bool
     }
     let mut marks = [0u8; marks::ROW];
     marks::mark(members, &mut marks);
-    (count_of(states, rules::FREE) == end) & marks::all_marked(states, &marks)
+    (count_of(states, rules::FREE, rules::FREE) == end) & marks::all_marked(states, &marks)
 }
 
 // Whether the free lists are as validity says: each names its level's FREE blocks once and nothing else, with zeros behind its end.

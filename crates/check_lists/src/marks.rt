@@ -3,7 +3,7 @@ use rules;
 use shape::Shape;
 ghost use mathlib.Core.Path.{_≡_};
 ghost use mathlib.Core.Bool.{true};
-ghost use Prim.Native.Nat.{ℕ, _+_, _*_, _<_, _≤_};
+ghost use Prim.Native.Nat.{ℕ, min, _+_, _*_, _<_, _≤_};
 ghost use lib.ListN.{length};
 ghost use lib.Dec.{ltb};
 ghost use Rattle.laws.specs.Tests.{every};
@@ -42,6 +42,17 @@ fn row_marked(states: &[u8], marks: &[u8; ROW], bit: usize) -> bool
     ok
 }
 
+// Where a part of a level ends that begins here: behind a row, or with the level.
+fn row_end(from: usize, end: usize) -> usize
+    requires { ⌜ from ≤ end ⌝ }
+    ensures { λ r. ⌜ r ≡ min (from + row) end ⌝ }
+{
+    if end - from < ROW {
+        return end;
+    }
+    from + ROW
+}
+
 // Whether each FREE block of a level is marked.
 pub fn all_marked(states: &[u8], marks: &[u8; ROW]) -> bool
     requires { ⌜ length (now states) ≤ mostCount ⌝ }
@@ -50,11 +61,11 @@ pub fn all_marked(states: &[u8], marks: &[u8; ROW]) -> bool
     let mut ok = true;
     let mut bit = 0;
     let mut from = 0;
-    while ROW <= states.len() - from {
-        let to = from + ROW;
+    while from < states.len() {
+        let to = row_end(from, states.len());
         ok = ok & row_marked(&states[from..to], marks, bit);
         from = to;
         bit += 1;
     }
-    ok & row_marked(&states[from..], marks, bit)
+    ok
 }

@@ -28,6 +28,17 @@ unfolding tally
 tally-behind m zero f = rw add-zero (omega arith)
 tally-behind m (suc n) f = rw add-suc (omega (arith, tally-behind m n f))
 
+-- how many pass one of two tests that never pass together
+pub tally-either :
+    (n : ℕ) (f g : ℕ → Bool) → ((k : ℕ) → f k ≡ true → g k ≡ false) → tally n (λ k. f k || g k) ≡ tally n f + tally n g
+unfolding tally
+tally-either zero f g h = refl
+tally-either (suc n) f g h = omega (arith, tally-either n f g h, one (f n) (g n) (h n))
+  where
+    one : (a b : Bool) → (a ≡ true → b ≡ false) → bit (a || b) ≡ bit a + bit b
+    one true b e = rw (e refl)
+    one false b e = omega arith
+
 -- f is nowhere above g, and their sums agree: then f is g
 pub sums-meet :
     (n : ℕ) (f g : ℕ → ℕ) → ((k : ℕ) → k < n → f k ≤ g k) → sum n f ≡ sum n g → (k : ℕ) → k < n → f k ≡ g k
@@ -131,6 +142,16 @@ module _ (n m : ℕ) (f test : ℕ → Bool) (at : ℕ → ℕ) (inside : (t : �
       go : (h : ℕ) → holders m test at k ≡ h → h ≤ bit (f k)
       go zero q = omega arith
       go (suc h) q = let (t, l, p) = tally-found m (λ t. test t && eqb (at t) k) (omega arith) in rw (← q) (one t l p)
+
+  -- so no more hands than numbers pass
+  pub held-fewer : every m (alone m f test at) ≡ true → tally m test ≤ tally n f
+  held-fewer e =
+      omega (
+        arith,
+        hands-counted n m test at inside,
+        sum-most n (holders m test at) (λ k. bit (f k)) (λ k l. held-most e k),
+        tally-sum n f,
+      )
 
   -- where each number is held as often as it passes, each hand is alone
   held-alone :

@@ -1,18 +1,14 @@
--- The table of powers holds the powers of the number of parts, and that of sums what lies above each level.
+-- Powers of the number of parts as shifts, and what lies above a level as a sum of powers.
 -- Assumes nothing.
 use mathlib.Core.Path.{_≡_, refl}
-use mathlib.Core.List.{List, [], _∷_}
-use Prim.Native.Nat.{ℕ, zero, suc, _+_, _*_, _^_, _<_, _≤_}
+use Prim.Native.Nat.{ℕ, zero, suc, _+_, _*_, _-_, _/_, _%_, _^_, _<_, _≤_}
 use native.Mathlib.Omega.{arith}
-use lib.ListN.{getD}
 use Rattle.shape.specs.declared.Shape.{Shape}
 use Rattle.shape.specs.Limits.{parts}
 use Rattle.shape.specs.Blocks.{count, above}
 
-abbrev pub powers : List ℕ
-powers = 1 ∷ 4 ∷ 16 ∷ 64 ∷ 256 ∷ 1024 ∷ []
-
-pub power : (l : ℕ) → l < 6 → getD powers l 0 ≡ 4 ^ l
+-- one, shifted by two for each level
+pub power : (l : ℕ) → l < 6 → 1 * 2 ^ (2 * l) % 2 ^ 64 ≡ 4 ^ l
 power zero h = refl
 power (suc zero) h = refl
 power (suc (suc zero)) h = refl
@@ -21,7 +17,7 @@ power (suc (suc (suc (suc zero)))) h = refl
 power (suc (suc (suc (suc (suc zero))))) h = refl
 power (suc (suc (suc (suc (suc (suc l)))))) h = absurd (omega arith)
 
-pub power-range : (l : ℕ) → l < 6 → (1 ≤ getD powers l 0) × (getD powers l 0 ≤ 1024)
+pub power-range : (l : ℕ) → l < 6 → (1 ≤ 4 ^ l) × (4 ^ l ≤ 1024)
 power-range zero h = omega arith
 power-range (suc zero) h = omega arith
 power-range (suc (suc zero)) h = omega arith
@@ -31,15 +27,16 @@ power-range (suc (suc (suc (suc (suc zero))))) h = omega arith
 power-range (suc (suc (suc (suc (suc (suc l)))))) h = absurd (omega arith)
 
 -- the sums of the powers, times the top blocks, are what lies above each level
-abbrev pub sums : List ℕ
-sums = 0 ∷ 1 ∷ 5 ∷ 21 ∷ 85 ∷ 341 ∷ []
-
-pub sum-above : (s : Shape) (l : ℕ) → l < 6 → s .tops * getD sums l 0 ≡ above s l
+sums : (s : Shape) (l : ℕ) → l < 6 → s .tops * ((4 ^ l - 1) / 3) ≡ above s l
 unfolding above count parts
-sum-above s zero h = omega arith
-sum-above s (suc zero) h = omega arith
-sum-above s (suc (suc zero)) h = omega arith
-sum-above s (suc (suc (suc zero))) h = omega arith
-sum-above s (suc (suc (suc (suc zero)))) h = omega arith
-sum-above s (suc (suc (suc (suc (suc zero))))) h = omega arith
-sum-above s (suc (suc (suc (suc (suc (suc l)))))) h = absurd (omega arith)
+sums s zero h = omega arith
+sums s (suc zero) h = omega arith
+sums s (suc (suc zero)) h = omega arith
+sums s (suc (suc (suc zero))) h = omega arith
+sums s (suc (suc (suc (suc zero)))) h = omega arith
+sums s (suc (suc (suc (suc (suc zero))))) h = omega arith
+sums s (suc (suc (suc (suc (suc (suc l)))))) h = absurd (omega arith)
+
+pub sum-above : (s : Shape) (l n : ℕ) → l < 6 → n ≡ parts s ^ l → s .tops * ((n - 1) / 3) ≡ above s l
+unfolding parts
+sum-above s l n h e = rw e (sums s l h)

@@ -17,14 +17,11 @@ pub struct Shape {
     pub top_size: usize,
 }
 
-// The powers of the number of parts.
-const POWERS: [usize; 6] = [1, 4, 16, 64, 256, 1024];
-
-// The sums of the powers below each: how many blocks of a top block lie above a level.
-const SUMS: [usize; 6] = [0, 1, 5, 21, 85, 341];
-
 impl Shape {
     pub const PARTS: usize = 4;
+
+    // The number of parts is this power of two.
+    const PARTS_LOG: usize = 2;
 
     pub const LEAST_MULTIPLE: usize = 4;
 
@@ -48,7 +45,7 @@ impl Shape {
         requires { ⌜ exponent < 6 ⌝ }
         ensures { λ r. ⌜ (r ≡ parts self ^ exponent) × ((1 ≤ r) × (r ≤ 1024)) ⌝ }
     {
-        POWERS[exponent]
+        1 << (Shape::PARTS_LOG * exponent)
     }
 
     // Whether the numbers lie within the limits.
@@ -123,7 +120,7 @@ impl Shape {
         requires { ⌜ (allowed self ≡ true) × (level ≤ self .levels) ⌝ }
         ensures { λ r. ⌜ (r ≡ above self level) × (r ≤ 5456) ⌝ }
     {
-        self.tops * SUMS[level]
+        self.tops * ((self.power(level) - 1) / (Shape::PARTS - 1))
     }
 
     // The place of a block in the tables.

@@ -9,16 +9,16 @@ use Rattle.check_counts.proofs.count_few.Statement.{statement}
 use Rattle.check_counts.proofs.count_few.Tie as tie
 
 abbrev Inv-loop : tie.InvT-loop
-Inv-loop states state sum₀ i₀ sum i = Passed states state i sum
+Inv-loop states one other sum₀ i₀ sum i = Passed states one other i sum
 
 abbrev μ-loop : tie.MeasureT-loop
-μ-loop states state sum₀ i₀ sum i = length states - i
+μ-loop states one other sum₀ i₀ sum i = length states - i
 
 loop-holds : tie.Need-loop-holds Inv-loop μ-loop
-loop-holds c = passed-none _ _
+loop-holds c = passed-none _ _ _
 
-shared-slice-read-sum : tie.Need-shared-slice-read-sum Inv-loop μ-loop
-shared-slice-read-sum c = omega arith
+shared-slice-read-state : tie.Need-shared-slice-read-state Inv-loop μ-loop
+shared-slice-read-state c = omega arith
 
 cast-sum : tie.Need-cast-sum Inv-loop μ-loop
 cast-sum c = search needs
@@ -45,7 +45,7 @@ count-few-spec =
     Inv-loop
     μ-loop
     loop-holds
-    shared-slice-read-sum
+    shared-slice-read-state
     cast-sum
     add-sum
     add-i

@@ -9,27 +9,27 @@ use Rattle.check_counts.proofs.count_of.Statement.{statement}
 use Rattle.check_counts.proofs.count_of.Tie as tie
 
 abbrev Inv-loop : tie.InvT-loop
-Inv-loop states state sum₀ from₀ sum from = Passed states state from sum
+Inv-loop states one other sum₀ from₀ sum from = Passed states one other from sum
 
 abbrev μ-loop : tie.MeasureT-loop
-μ-loop states state sum₀ from₀ sum from = length states - from
+μ-loop states one other sum₀ from₀ sum from = length states - from
 
 -- one part more, and the rest
 more :
     (c : tie.After-count-few Inv-loop μ-loop) →
     let a = c .before .before .before .before .before .args in
     let turn = c .before .before .before .loop in
-    Passed (a .states .now) (a .state) (turn .from + few) (turn .sum + c .count-few .result)
+    Passed (a .states .now) (a .one) (a .other) (turn .from + few) (turn .sum + c .count-few .result)
 more c = passed-part _ (c .before .before .before .loop .inv) (omega arith) (omega arith) (c .count-few .ensures)
 
 all :
     (c : tie.After-count-few2 Inv-loop μ-loop) →
     let a = c .before .before .before .before .before .args in
-    Passed (a .states .now) (a .state) (length (a .states .now)) (c .before .before .before .loop .sum + c .count-few2 .result)
+    Passed (a .states .now) (a .one) (a .other) (length (a .states .now)) (c .before .before .before .loop .sum + c .count-few2 .result)
 all c = passed-part _ (c .before .before .before .loop .inv) (omega arith) (omega arith) (c .count-few2 .ensures)
 
 loop-holds : tie.Need-loop-holds Inv-loop μ-loop
-loop-holds c = passed-none _ _
+loop-holds c = passed-none _ _ _
 
 sub-loop : tie.Need-sub-loop Inv-loop μ-loop
 sub-loop c = omega arith

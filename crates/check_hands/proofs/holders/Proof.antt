@@ -4,11 +4,11 @@ use Prim.Native.Nat.{_+_, _-_}
 use native.Mathlib.Omega.{arith}
 use mir.Val.{boolByte}
 use borrow.Author.Needs.{needs}
+use Rattle.rules.specs.Valid.{inHand}
 use Rattle.check_hands.specs.Hands.{atStage}
 use Rattle.check_hands.proofs.Passed.{Passed, passed-none, passed-most, passed-more, passed-all}
 use Rattle.check_hands.proofs.holders.Statement.{statement}
 use Rattle.check_hands.proofs.holders.Tie as tie
-use Rattle.rules.specs.Valid.{inHand}
 
 abbrev Inv-loop : tie.InvT-loop
 Inv-loop s calls stage level block sum₀ t₀ sum t = Passed s calls (inHand (atStage stage) level block) t sum

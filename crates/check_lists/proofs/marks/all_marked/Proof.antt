@@ -1,10 +1,9 @@
--- `check_lists::marks::all_marked` meets its contract: the flag is the test of every block of the rows passed, and the rest is a row.
+-- `check_lists::marks::all_marked` meets its contract: the flag is the test of every block of the rows passed.
 -- Assumes nothing.
 use Prim.Native.Nat.{_-_}
 use native.Mathlib.Omega.{arith}
-use borrow.Author.Needs.{needs}
 use lib.ListN.{length, length-take}
-use Rattle.check_lists.proofs.Marking.{Rows, rows-none, rows-part, rows-more}
+use Rattle.check_lists.proofs.Marking.{Rows, rows-none, rows-more, rows-all}
 use Rattle.check_lists.proofs.marks.all_marked.Statement.{statement}
 use Rattle.check_lists.proofs.marks.all_marked.Tie as tie
 
@@ -17,11 +16,8 @@ abbrev μ-loop : tie.MeasureT-loop
 loop-holds : tie.Need-loop-holds Inv-loop μ-loop
 loop-holds c = rows-none _ _
 
-sub-loop : tie.Need-sub-loop Inv-loop μ-loop
-sub-loop c = omega arith
-
-add-to : tie.Need-add-to Inv-loop μ-loop
-add-to c = omega arith
+row-end-requires : tie.Need-row-end-requires Inv-loop μ-loop
+row-end-requires c κs = omega arith
 
 sub-row-marked : tie.Need-sub-row-marked Inv-loop μ-loop
 sub-row-marked c = omega arith
@@ -33,31 +29,21 @@ part-row-marked-end : tie.Need-part-row-marked-end Inv-loop μ-loop
 part-row-marked-end c = omega arith
 
 row-marked-requires : tie.Need-row-marked-requires Inv-loop μ-loop
-row-marked-requires c κs = (simp length-take (omega arith), simp length-take (omega arith))
+row-marked-requires c κs =
+    let start = c .before .before .before .loop .inv .start (c .before .before .loop-test .taken) in
+    (simp length-take (omega arith), simp length-take (omega arith))
 
 add-bit : tie.Need-add-bit Inv-loop μ-loop
-add-bit c = omega arith
+add-bit c = omega (arith, c .before .before .before .before .loop .inv .start (c .before .before .before .loop-test .taken))
 
 loop-less : tie.Need-loop-less Inv-loop μ-loop
 loop-less c = omega arith
 
 loop-again : tie.Need-loop-again Inv-loop μ-loop
-loop-again c = rows-more (c .before .before .before .loop .inv) (omega arith) (c .row-marked .ensures)
-
-sub-row-marked-2 : tie.Need-sub-row-marked-2 Inv-loop μ-loop
-sub-row-marked-2 c = omega arith
-
-part-row-marked-start-2 : tie.Need-part-row-marked-start-2 Inv-loop μ-loop
-part-row-marked-start-2 c = omega arith
-
-part-row-marked-end-2 : tie.Need-part-row-marked-end-2 Inv-loop μ-loop
-part-row-marked-end-2 c = omega arith
-
-row-marked-requires-2 : tie.Need-row-marked-requires-2 Inv-loop μ-loop
-row-marked-requires-2 c κs = (simp length-take (omega arith), simp length-take (omega arith))
+loop-again c = rows-more (c .before .before .before .before .loop .inv) (c .before .before .before .loop-test .taken) (c .before .before .row-end .ensures) (c .row-marked .ensures)
 
 returns : tie.Need-returns Inv-loop μ-loop
-returns c = rows-part _ (c .before .before .before .loop .inv) (omega arith) (omega arith) (omega arith) (c .row-marked2 .ensures)
+returns c = rows-all (c .before .loop .inv) (c .loop-test .left)
 
 pub all-marked-spec : {M : Type 1} → statement M
 all-marked-spec =
@@ -66,8 +52,7 @@ all-marked-spec =
     Inv-loop
     μ-loop
     loop-holds
-    sub-loop
-    add-to
+    row-end-requires
     sub-row-marked
     part-row-marked-start
     part-row-marked-end
@@ -75,8 +60,4 @@ all-marked-spec =
     add-bit
     loop-less
     loop-again
-    sub-row-marked-2
-    part-row-marked-start-2
-    part-row-marked-end-2
-    row-marked-requires-2
     returns)
