@@ -152,7 +152,7 @@ fn refusals(lent: &mut Lent, shape: Shape) -> [Option<Refusal>; 5] {
             view.free_bytes(device, shape).err(),
             view.bytes_by_state(device, shape).err(),
             view.largest_size(device, shape).err(),
-            view.held_bytes(device, shape, usize::MAX).err(),
+            view.held_bytes(device, shape, shape.threads).err(),
             view.keeper(device, shape).err(),
         ]
     };
