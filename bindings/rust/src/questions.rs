@@ -9,7 +9,7 @@ use crate::shape::Shape;
 use crate::state::State;
 use crate::tables::View;
 
-/// The bytes of a pool by the state of the block over them. They sum to the pool's bytes: no byte's own block is divided or absent.
+/// The bytes of a pool by the state of the one undivided block over each. They sum to the pool's bytes.
 #[non_exhaustive]
 #[derive(Clone, Copy, Debug, Default, PartialEq, Eq, Hash)]
 pub struct Bytes {

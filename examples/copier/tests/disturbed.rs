@@ -8,10 +8,10 @@ use std::io::Write;
 use std::process::{Child, Command};
 use std::time::{Duration, SystemTime};
 
-/// Copies a folder with two clips, and lets something happen to it meanwhile.
+/// Copies a folder with two clips and an empty folder, and lets something happen meanwhile.
 fn copy_disturbed(name: &str, disturb: impl FnOnce(&Folder)) -> (i32, String, String) {
     let folder = Folder::new(name);
-    fs::create_dir(folder.path("from")).unwrap();
+    fs::create_dir_all(folder.path("from/nothing")).unwrap();
     for clip in ["from/first", "from/second"] {
         fs::write(folder.path(clip), vec![7; 6_000_000]).unwrap();
     }
@@ -61,6 +61,12 @@ fn a_file_that_goes() {
 fn a_file_that_comes() {
     let ended = copy_disturbed("comes", |folder| fs::write(folder.path("from/third"), b"a late clip").unwrap());
     stays_off(ended, "a file has come");
+}
+
+#[test]
+fn a_folder_that_cannot_be_written_through() {
+    let ended = copy_disturbed("through", |folder| fs::remove_dir(folder.path("to/nothing")).unwrap());
+    stays_off(ended, "nothing through to the drive");
 }
 
 /// Sends a signal to a run.
