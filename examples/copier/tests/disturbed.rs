@@ -82,7 +82,7 @@ fn a_run_that_is_stopped_cleans_up() {
             let folder = Folder::new(&format!("stopped-{name}-{}", mode.len()));
             let (status, output, errors) = run_disturbed(copier(&folder.0, mode), |run| signal(run, name));
             assert_eq!(status, 128 + number, "{output}{errors}");
-            assert!(errors.contains(&format!("stopped by signal {number}")), "{output}{errors}");
+            assert_eq!(errors, format!("copier: stopped by signal {number}\n"), "the copy is not finished first: {output}");
             assert!(output.ends_with(OFF) && !output.contains("pull it"), "{output}{errors}");
             assert_eq!(fs::read_dir(&folder.0).unwrap().count(), 0, "the temporary folder is removed");
         }
