@@ -83,6 +83,11 @@ typedef struct saltbalance_device {
     uint32_t running;
 } saltbalance_device;
 
+/* ---- Stack -------------------------------------------------------------------------------------------------------------------- */
+
+/* No call was seen to take more bytes of stack, its return address included, its arguments not; examples/c/stack.c measures it. */
+#define SALTBALANCE_STACK 6400
+
 /* ---- Waits -------------------------------------------------------------------------------------------------------------------- */
 
 /* The waits that are no time, and the longest that is one, in milliseconds. */

@@ -40,7 +40,7 @@ typedef struct saltbalance_pool {
                                      SALTBALANCE_LISTS(levels, tops), SALTBALANCE_CALLS(threads), SALTBALANCE_QUEUE(threads)},         \
                                     memory}
 
-/* ---- The calls, each as in saltbalance.h -------------------------------------------------------------------------------------- */
+/* ---- The calls, as in saltbalance.h ------------------------------------------------------------------------------------------- */
 
 /* The tables of a pool as a call takes them. */
 #define SALTBALANCE_LENT(p)                                                                                                            \
@@ -57,6 +57,17 @@ static inline saltbalance_answer saltbalance_pool_ask(saltbalance_pool *p, size_
 
 static inline saltbalance_answer saltbalance_pool_go_on(saltbalance_pool *p, size_t thread) {
     return saltbalance_go_on(&p->device, p->shape, SALTBALANCE_LENT(p), thread);
+}
+
+/* Goes on until the thread's call ends or waits, and answers that last step: GRANTED, SETTLED, WAITING or a refusal. */
+static inline saltbalance_answer saltbalance_pool_go_on_to_end(saltbalance_pool *p, size_t thread) {
+    for (;;) {
+        saltbalance_answer step = saltbalance_pool_go_on(p, thread);
+        if (step.number != SALTBALANCE_FOUND && step.number != SALTBALANCE_AGAIN && step.number != SALTBALANCE_TAKEN &&
+            step.number != SALTBALANCE_SPLIT && step.number != SALTBALANCE_MERGED) {
+            return step;
+        }
+    }
 }
 
 static inline saltbalance_answer saltbalance_pool_give_back(saltbalance_pool *p, size_t thread, size_t id) {
