@@ -11,7 +11,7 @@
  * answers SALTBALANCE_GRANTED, SALTBALANCE_NO_ROOM or SALTBALANCE_TIMED_OUT. A buffer goes home likewise: `give_back` opens a call,
  * `go_on` makes its steps until it answers SALTBALANCE_SETTLED.
  *
- * One task calls at a time: guard the calls as any shared data is guarded.
+ * One task calls at a time: guard the calls as any shared data is guarded. docs/FIRMWARE.md says how, and what the calls cost.
  */
 #ifndef SALTBALANCE_H
 #define SALTBALANCE_H
@@ -212,7 +212,8 @@ saltbalance_answer saltbalance_tick(saltbalance_device *device, saltbalance_shap
                                     uint64_t *calls, size_t calls_length, uint8_t *queue, size_t queue_length);
 
 /* Has everything come home? Answers WHOLE exactly when all bytes are free and no thread has a call open, else NOT_WHOLE. Refuses with 1
- * to 3. The light goes green on WHOLE and on nothing else. */
+ * to 3. Whole is not complete: a writer that was refused, timed out or has not asked yet holds nothing and has no call open. So a light
+ * goes green only if the copy task knows of no unfinished piece and the pool, asked after it, is WHOLE (docs/FIRMWARE.md). */
 saltbalance_answer saltbalance_whole(saltbalance_device device, saltbalance_shape shape, const uint8_t *states, size_t states_length,
                                      const uint8_t *owners, size_t owners_length, const uint16_t *lists, size_t lists_length,
                                      const uint64_t *calls, size_t calls_length, const uint8_t *queue, size_t queue_length);

@@ -59,15 +59,19 @@ static inline saltbalance_answer saltbalance_pool_go_on(saltbalance_pool *p, siz
     return saltbalance_go_on(&p->device, p->shape, SALTBALANCE_LENT(p), thread);
 }
 
+/* Whether a call stays open after a step of its own with this answer. */
+static inline int saltbalance_stays_open(size_t number) {
+    return number == SALTBALANCE_OPENED || number == SALTBALANCE_FOUND || number == SALTBALANCE_AGAIN || number == SALTBALANCE_TAKEN ||
+           number == SALTBALANCE_SPLIT || number == SALTBALANCE_WAITING || number == SALTBALANCE_MERGED;
+}
+
 /* Goes on until the thread's call ends or waits, and answers that last step: GRANTED, SETTLED, WAITING or a refusal. */
 static inline saltbalance_answer saltbalance_pool_go_on_to_end(saltbalance_pool *p, size_t thread) {
-    for (;;) {
-        saltbalance_answer step = saltbalance_pool_go_on(p, thread);
-        if (step.number != SALTBALANCE_FOUND && step.number != SALTBALANCE_AGAIN && step.number != SALTBALANCE_TAKEN &&
-            step.number != SALTBALANCE_SPLIT && step.number != SALTBALANCE_MERGED) {
-            return step;
-        }
-    }
+    saltbalance_answer step;
+    do {
+        step = saltbalance_pool_go_on(p, thread);
+    } while (saltbalance_stays_open(step.number) && step.number != SALTBALANCE_WAITING);
+    return step;
 }
 
 static inline saltbalance_answer saltbalance_pool_give_back(saltbalance_pool *p, size_t thread, size_t id) {
