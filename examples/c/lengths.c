@@ -42,7 +42,7 @@ static void allowed_shapes(void) {
     for (size_t levels = 1; levels <= SALTBALANCE_MOST_LEVELS; levels++) {
         for (size_t tops = 1; tops <= SALTBALANCE_MOST_TOPS; tops++) {
             for (size_t threads = 1; threads <= SALTBALANCE_MOST_THREADS; threads++) {
-                saltbalance_shape s = {.pool = 1, .threads = threads, .levels = levels, .tops = tops, .top_size = SALTBALANCE_IN_A_TOP(levels)};
+                saltbalance_shape s = {1, threads, levels, tops, SALTBALANCE_IN_A_TOP(levels)};
                 compare(s, by_macros(s));
                 if (SALTBALANCE_RAM(threads, levels, tops) != bytes(by_macros(s))) {
                     differing++;

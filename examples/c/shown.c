@@ -85,7 +85,8 @@ static void keeper(void) {
     int whole = saltbalance_pool_whole(&pool).number == SALTBALANCE_WHOLE;
     check(who.refusal == 0 && (who.keeper == SALTBALANCE_NOBODY) == whole, "nobody keeps a whole pool");
     if (who.keeper == SALTBALANCE_OPEN_CALL && on_trial(who.thread)) {
-        check(saltbalance_pool_ask(&trial, who.thread, 0, SALTBALANCE_NO_WAIT).number == SALTBALANCE_CALL_OPEN, "this thread has a call open");
+        size_t asked = saltbalance_pool_ask(&trial, who.thread, 0, SALTBALANCE_NO_WAIT).number;
+        check(asked == SALTBALANCE_CALL_OPEN, "this thread has a call open");
     }
     if (who.keeper == SALTBALANCE_HELD_BLOCK) {
         on_trial(who.thread);

@@ -29,11 +29,11 @@ use Rattle.rules.specs.Valid.{valid}
 use Rattle.rules.specs.Steps.{Outcome, outcome, onlyCall, closed, moved, holding, deepest, noRoom, lookAt, look, takeFrom, takeStep, splitStep, grantStep, divideStep, merges, mergeStep, wake, settleStep, releaseStep, goOnStep}
 use Rattle.rules.specs.Calls.{refuse, checked, byRunning, build, askedCall, isOutside, askStep, ask, goOn, idOutside, giveBlock, giveStep, give, onlyDevice, switchStep, switch, due, tickStep, tick}
 use Rattle.rules.specs.Questions.{isWhole, whole}
-use Rattle.rules.specs.Facts.{Sound}
+use Rattle.facts.specs.Lines.{Sound}
 use Rattle.history.specs.History.{Step, Build, Ask, GoOn, Give, Switch, Tick, Whole, stepOn}
-use Rattle.history.specs.Given.{left-over}
+use Rattle.facts.specs.Stage.{left-over}
 use Rattle.history.specs.Listed.{entry, listedFor}
-use Rattle.history.specs.Running.{Running, own-facts, ready}
+use Rattle.facts.specs.Running.{Running, own-facts, ready}
 
 -- a refusal that closes the asker's call: no room, and timed out
 abbrev pub closes : Refusal → Bool

@@ -24,7 +24,7 @@ pub fn build(
 ) -> Answer
     ensures { λ r. ⌜ outcome r (state (now (states .exit)) (now (owners .exit)) (now (lists .exit)) (now (calls .exit)) (now (queue .exit)) (now (d .exit))) ≡ build s (state (now (states .entry)) (now (owners .entry)) (now (lists .entry)) (now (calls .entry)) (now (queue .entry)) (now (d .entry))) ⌝ }
 {
-    let r = checked::build(*d, s, states, owners, lists, calls, queue);
+    let r = pool_checked::build(*d, s, states, owners, lists, calls, queue);
     *d = r.device;
     r.answer
 }
@@ -44,10 +44,10 @@ pub fn ask(
 ) -> Answer
     ensures { λ r. ⌜ outcome r (state (now (states .entry)) (now (owners .entry)) (now (lists .entry)) (now (calls .exit)) (now (queue .entry)) d) ≡ ask s (state (now (states .entry)) (now (owners .entry)) (now (lists .entry)) (now (calls .entry)) (now (queue .entry)) d) t size wait ⌝ }
 {
-    let v = verdict::checked(s, states, owners, lists, calls, queue, d);
+    let v = check_tables::checked(s, states, owners, lists, calls, queue, d);
     match v {
         Verdict::Failed(r) => Answer::Refused(r),
-        Verdict::Passed => ready::ask(d, s, calls, t, size, wait),
+        Verdict::Passed => pool_sound::ask(d, s, calls, t, size, wait),
     }
 }
 
@@ -64,7 +64,7 @@ pub fn go_on(
 ) -> Answer
     ensures { λ r. ⌜ outcome r (state (now (states .exit)) (now (owners .exit)) (now (lists .exit)) (now (calls .exit)) (now (queue .exit)) (now (d .exit))) ≡ goOn s (state (now (states .entry)) (now (owners .entry)) (now (lists .entry)) (now (calls .entry)) (now (queue .entry)) (now (d .entry))) t ⌝ }
 {
-    let r = checked::go_on(*d, s, states, owners, lists, calls, queue, t);
+    let r = pool_checked::go_on(*d, s, states, owners, lists, calls, queue, t);
     *d = r.device;
     r.answer
 }
@@ -83,10 +83,10 @@ pub fn give_back(
 ) -> Answer
     ensures { λ r. ⌜ outcome r (state (now (states .exit)) (now (owners .exit)) (now (lists .entry)) (now (calls .exit)) (now (queue .entry)) d) ≡ give s (state (now (states .entry)) (now (owners .entry)) (now (lists .entry)) (now (calls .entry)) (now (queue .entry)) d) t id ⌝ }
 {
-    let v = verdict::checked(s, states, owners, lists, calls, queue, d);
+    let v = check_tables::checked(s, states, owners, lists, calls, queue, d);
     match v {
         Verdict::Failed(r) => Answer::Refused(r),
-        Verdict::Passed => ready::give_back(d, s, states, owners, calls, t, id),
+        Verdict::Passed => pool_sound::give_back(d, s, states, owners, calls, t, id),
     }
 }
 
@@ -103,7 +103,7 @@ pub fn switch(
 ) -> Answer
     ensures { λ r. ⌜ outcome r (state (now (states .entry)) (now (owners .entry)) (now (lists .entry)) (now (calls .entry)) (now (queue .entry)) (now (d .exit))) ≡ switch s (state (now (states .entry)) (now (owners .entry)) (now (lists .entry)) (now (calls .entry)) (now (queue .entry)) (now (d .entry))) t ⌝ }
 {
-    let r = checked::switch(*d, s, states, owners, lists, calls, queue, t);
+    let r = pool_checked::switch(*d, s, states, owners, lists, calls, queue, t);
     *d = r.device;
     r.answer
 }
@@ -120,7 +120,7 @@ pub fn tick(
 ) -> Answer
     ensures { λ r. ⌜ outcome r (state (now (states .entry)) (now (owners .entry)) (now (lists .entry)) (now (calls .exit)) (now (queue .exit)) (now (d .exit))) ≡ tick s (state (now (states .entry)) (now (owners .entry)) (now (lists .entry)) (now (calls .entry)) (now (queue .entry)) (now (d .entry))) ⌝ }
 {
-    let r = checked::tick(*d, s, states, owners, lists, calls, queue);
+    let r = pool_checked::tick(*d, s, states, owners, lists, calls, queue);
     *d = r.device;
     r.answer
 }
@@ -137,10 +137,10 @@ pub fn whole(
 ) -> Answer
     ensures { λ r. ⌜ r ≡ whole s (state (now (states .entry)) (now (owners .entry)) (now (lists .entry)) (now (calls .entry)) (now (queue .entry)) d) ⌝ }
 {
-    let v = verdict::checked(s, states, owners, lists, calls, queue, d);
+    let v = check_tables::checked(s, states, owners, lists, calls, queue, d);
     match v {
         Verdict::Failed(r) => Answer::Refused(r),
-        Verdict::Passed => ready::whole(s, states, calls),
+        Verdict::Passed => pool_sound::whole(s, states, calls),
     }
 }
 
@@ -157,7 +157,7 @@ pub fn cover(
 ) -> Covered
     ensures { λ r. ⌜ r ≡ cover s (state (now (states .entry)) (now (owners .entry)) (now (lists .entry)) (now (calls .entry)) (now (queue .entry)) d) offset ⌝ }
 {
-    let v = verdict::checked(s, states, owners, lists, calls, queue, d);
+    let v = check_tables::checked(s, states, owners, lists, calls, queue, d);
     match v {
         Verdict::Failed(r) => Covered::Refused(r),
         Verdict::Passed => questions::cover::cover_at(s, states, offset),
@@ -177,7 +177,7 @@ pub fn map(
 ) -> Mapped
     ensures { λ r. ⌜ mapOutcome r (now (row .exit)) ≡ mapPool s (state (now (states .entry)) (now (owners .entry)) (now (lists .entry)) (now (calls .entry)) (now (queue .entry)) d) (now (row .entry)) ⌝ }
 {
-    let v = verdict::checked(s, states, owners, lists, calls, queue, d);
+    let v = check_tables::checked(s, states, owners, lists, calls, queue, d);
     match v {
         Verdict::Failed(r) => Mapped::Refused(r),
         Verdict::Passed => questions::map::map_row(s, states, row),

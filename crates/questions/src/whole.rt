@@ -1,6 +1,6 @@
 // Whole: every top block is FREE, and no thread has a call open.
-use calls::call::call_of;
 use shape::Shape;
+use tables_threads::call::call_of;
 ghost use mathlib.Core.Path.{_≡_};
 ghost use mathlib.Core.Bool.{true};
 ghost use mathlib.Core.List.{List};

@@ -2,9 +2,6 @@ pub mod Numbers
 pub mod Answers
 pub mod Tables
 pub mod Valid
-pub mod Facts
-pub mod ListLaws
-pub mod Room
 pub mod Steps
 pub mod Calls
 pub mod Questions

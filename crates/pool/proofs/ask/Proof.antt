@@ -2,9 +2,9 @@
 -- Assumes nothing.
 use denote.Ref.{now}
 use Rattle.rules.specs.Tables.{State, state}
-use Rattle.verdict.specs.Verdict.{sound, refused}
+use Rattle.check_tables.specs.Verdict.{sound, refused}
 use Rattle.rules.specs.Calls.{ask}
-use Rattle.ready.specs.Sound.{calls-length}
+use Rattle.pool_sound.specs.Sound.{calls-length}
 use borrow.Author.Needs.{needs}
 use Rattle.pool.proofs.ask.Statement.{statement}
 use Rattle.pool.proofs.ask.Tie as tie

@@ -2,9 +2,9 @@
 -- Assumes nothing.
 use denote.Ref.{now}
 use Rattle.rules.specs.Tables.{State, state}
-use Rattle.verdict.specs.Verdict.{sound, refused}
+use Rattle.check_tables.specs.Verdict.{sound, refused}
 use Rattle.rules.specs.Calls.{give}
-use Rattle.ready.specs.Sound.{give-ready}
+use Rattle.pool_sound.specs.Sound.{give-ready}
 use borrow.Author.Needs.{needs}
 use Rattle.pool.proofs.give_back.Statement.{statement}
 use Rattle.pool.proofs.give_back.Tie as tie

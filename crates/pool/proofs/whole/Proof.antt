@@ -2,10 +2,10 @@
 -- Assumes nothing.
 use denote.Ref.{now}
 use Rattle.rules.specs.Tables.{State, state}
-use Rattle.verdict.specs.Verdict.{sound, unanswered}
+use Rattle.check_tables.specs.Verdict.{sound, unanswered}
 use Rattle.rules.specs.declared.Answer.the-variants.{Refused}
 use Rattle.rules.specs.Questions.{whole}
-use Rattle.ready.specs.Sound.{whole-ready}
+use Rattle.pool_sound.specs.Sound.{whole-ready}
 use borrow.Author.Needs.{needs}
 use Rattle.pool.proofs.whole.Statement.{statement}
 use Rattle.pool.proofs.whole.Tie as tie

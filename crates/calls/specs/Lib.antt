@@ -1,4 +1,0 @@
-pub mod Call
-pub mod Queue
-pub mod Sift
-pub mod Wake

@@ -1,0 +1,9 @@
+pub mod Lines
+pub mod Lists
+pub mod Given
+pub mod Call
+pub mod Queue
+pub mod Sift
+pub mod Wake
+pub mod Stage
+pub mod Running

@@ -1,0 +1,31 @@
+-- `step_open::switch::switch_step` meets its contract: at each return the tests that led there say which outcome the rule has.
+-- Assumes nothing.
+use native.Mathlib.Omega.{arith}
+use borrow.Author.Needs.{needs}
+use denote.Ref.{now}
+use Rattle.shape.specs.Laws.{limits}
+use Rattle.step_open.proofs.Switches.{no-thread, blocked, runs}
+use Rattle.step_open.proofs.switch.switch_step.Statement.{statement}
+use Rattle.step_open.proofs.switch.switch_step.Tie as tie
+
+returns : tie.Need-returns
+returns c = λ states owners lists queue. no-thread (c .before .before .before .args .s) states owners lists (now (c .before .before .before .args .calls)) queue (c .before .before .before .args .d) (c .before .before .before .args .t) (c .if1 .taken)
+
+call-of-requires : tie.Need-call-of-requires
+call-of-requires c κs = search needs
+
+returns-2 : tie.Need-returns-2
+returns-2 c = λ states owners lists queue. blocked (c .before .before .before .before .before .before .args .s) states owners lists (now (c .before .before .before .before .before .before .args .calls)) queue (c .before .before .before .before .before .before .args .d) (c .before .before .before .before .before .before .args .t) (c .before .before .call-of .ensures) (c .before .before .before .if1 .left) (c .if2 .taken)
+
+cast-t13 : tie.Need-cast-t13
+cast-t13 c = omega (arith, limits (c .before .before .before .before .before .before .args .s) (c .before .before .before .before .before .before .pre .0))
+
+add-t14 : tie.Need-add-t14
+add-t14 c = omega (arith, limits (c .before .before .before .before .before .before .args .s) (c .before .before .before .before .before .before .pre .0))
+
+returns-3 : tie.Need-returns-3
+returns-3 c = λ states owners lists queue. runs (c .before .before .before .before .before .before .args .s) states owners lists (now (c .before .before .before .before .before .before .args .calls)) queue (c .before .before .before .before .before .before .args .d) (c .before .before .before .before .before .before .args .t) (c .before .before .call-of .ensures) (c .before .before .before .if1 .left) (c .if2 .left)
+
+pub switch-step-spec : {M : Type 1} → statement M
+switch-step-spec =
+    tie.close (tie.spec returns call-of-requires returns-2 cast-t13 add-t14 returns-3)
