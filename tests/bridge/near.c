@@ -50,11 +50,11 @@ static int start(void) {
 static size_t pack(message *m, const lent tables[TABLES]) {
     size_t end = SPACE;
     for (size_t k = 0; k < TABLES; k++) {
-        m->lengths[k] = tables[k].length;
-        m->starts[k] = end;
-        if (tables[k].bytes > ROOM - 2 * SPACE - end) {
+        if (tables[k].bytes > ROOM || end + tables[k].bytes + 2 * SPACE > ROOM) {
             fail("the tables are too long (ROOM in bridge.h)");
         }
+        m->lengths[k] = tables[k].length;
+        m->starts[k] = end;
         end += (tables[k].bytes + 2 * SPACE - 1) / SPACE * SPACE;
     }
     memset(m->tables, FILLED, end);

@@ -128,6 +128,11 @@ fn granted(lent: &Lent, shape: Shape, thread: usize, size: usize) -> Result<Answ
     })
 }
 
+/// How many steps a history has: SALTBALANCE_STEPS, else 1500.
+fn steps() -> usize {
+    std::env::var("SALTBALANCE_STEPS").map_or(1500, |steps| steps.parse().unwrap())
+}
+
 #[test]
 fn the_questions_answer_what_lies_over_every_byte() {
     let shape = |pool, threads, levels, tops, top_size| Shape { pool, threads, levels, tops, top_size };
@@ -135,7 +140,7 @@ fn the_questions_answer_what_lies_over_every_byte() {
     for (number, shape) in shapes.into_iter().enumerate() {
         let mut history = History::new(shape, 0x9e37_79b9_7f4a_7c15 + number as u64);
         history.compare();
-        for _ in 0..1500 {
+        for _ in 0..steps() {
             history.step();
             history.compare();
             history.grants_the_largest();
