@@ -16,6 +16,7 @@
 #include <sys/socket.h>
 #include <unistd.h>
 
+/* The fewest bytes in front of and behind a table in the message, and what each of them holds. */
 enum { SPACE = 8, FILLED = 0xC3 };
 
 /* A table that the caller lends; a table of no bytes may be NULL. */
