@@ -11,7 +11,7 @@
  * answers SALTBALANCE_GRANTED, SALTBALANCE_NO_ROOM or SALTBALANCE_TIMED_OUT. A buffer goes home likewise: `give_back` opens a call,
  * `go_on` makes its steps until it answers SALTBALANCE_SETTLED.
  *
- * One task calls at a time: guard the calls as any shared data is guarded.
+ * One task calls at a time: guard the calls as any shared data is guarded. docs/FIRMWARE.md says how, and what the calls cost.
  */
 #ifndef SALTBALANCE_H
 #define SALTBALANCE_H
@@ -25,7 +25,10 @@ extern "C" {
 
 /* ---- Shape -------------------------------------------------------------------------------------------------------------------- */
 
-/* The limits of a shape. The top size is a positive multiple of 4^levels. */
+/* How many blocks of a level lie in one top block: each block splits into four. For level 1, this is how many parts a block has. */
+#define SALTBALANCE_IN_A_TOP(level) ((size_t)1 << (2 * (level)))
+
+/* The limits of a shape. The top size is a positive multiple of SALTBALANCE_IN_A_TOP(levels). */
 #define SALTBALANCE_MOST_POOL 255
 #define SALTBALANCE_MOST_THREADS 8
 #define SALTBALANCE_MOST_LEVELS 5
@@ -41,18 +44,35 @@ typedef struct saltbalance_shape {
     size_t top_size;
 } saltbalance_shape;
 
-/* The number of blocks of all levels, and the length of each table, in elements. `levels` from 1 to 5. */
-#define SALTBALANCE_BLOCKS(levels, tops) ((size_t)(tops) * ((((size_t)1 << (2 * (levels))) - 1) / 3))
+/* The number of blocks of all levels, and the length of each table, in elements, for a shape that is allowed. */
+#define SALTBALANCE_BLOCKS(levels, tops)                                                                                               \
+    ((size_t)(tops) * ((SALTBALANCE_IN_A_TOP(levels) - 1) / (SALTBALANCE_IN_A_TOP(1) - 1)))
 #define SALTBALANCE_STATES(levels, tops) SALTBALANCE_BLOCKS(levels, tops)
 #define SALTBALANCE_OWNERS(levels, tops) SALTBALANCE_BLOCKS(levels, tops)
 #define SALTBALANCE_LISTS(levels, tops) ((size_t)(levels) + SALTBALANCE_BLOCKS(levels, tops))
 #define SALTBALANCE_CALLS(threads) ((size_t)6 * (size_t)(threads))
 #define SALTBALANCE_QUEUE(threads) ((size_t)(threads) + 1)
 
-/* Where a block starts, from its id, the shape's top size, and where the buffers start: its level is bits 8 to 11, its number bits 12 up. */
+/* The bytes of the five tables and the record together. */
+#define SALTBALANCE_RAM(threads, levels, tops)                                                                                         \
+    (SALTBALANCE_STATES(levels, tops) * sizeof(uint8_t) + SALTBALANCE_OWNERS(levels, tops) * sizeof(uint8_t) +                         \
+     SALTBALANCE_LISTS(levels, tops) * sizeof(uint16_t) + SALTBALANCE_CALLS(threads) * sizeof(uint64_t) +                              \
+     SALTBALANCE_QUEUE(threads) * sizeof(uint8_t) + sizeof(saltbalance_device))
+
+/* The length of each table, as the archive says it. */
+typedef struct saltbalance_lengths {
+    size_t states, owners, lists, calls, queue;
+} saltbalance_lengths;
+
+/* An id's fields: the pool's number, the level, and the block's number in its level. Together they are the id again. */
+#define SALTBALANCE_POOL_NUMBER(id) ((size_t)(id) & 255)
 #define SALTBALANCE_LEVEL(id) (((size_t)(id) >> 8) & 15)
 #define SALTBALANCE_BLOCK(id) ((size_t)(id) >> 12)
-#define SALTBALANCE_SIZE(id, top_size) ((size_t)(top_size) >> (2 * SALTBALANCE_LEVEL(id)))
+#define SALTBALANCE_ID(pool, level, block) ((size_t)(pool) | (size_t)(level) << 8 | (size_t)(block) << 12)
+
+/* The bytes of a block of a level; those of the block with an id, and where it starts, counted from where the buffers start. */
+#define SALTBALANCE_LEVEL_SIZE(level, top_size) ((size_t)(top_size) / SALTBALANCE_IN_A_TOP(level))
+#define SALTBALANCE_SIZE(id, top_size) SALTBALANCE_LEVEL_SIZE(SALTBALANCE_LEVEL(id), top_size)
 #define SALTBALANCE_OFFSET(id, top_size) (SALTBALANCE_BLOCK(id) * SALTBALANCE_SIZE(id, top_size))
 
 /* ---- Record ------------------------------------------------------------------------------------------------------------------- */
@@ -62,6 +82,18 @@ typedef struct saltbalance_device {
     uint32_t clock;
     uint32_t running;
 } saltbalance_device;
+
+/* ---- Stack -------------------------------------------------------------------------------------------------------------------- */
+
+/* No call was seen to take more bytes of stack, its return address included, its arguments not; examples/c/stack.c measures it. */
+#define SALTBALANCE_STACK 6400
+
+/* ---- Waits -------------------------------------------------------------------------------------------------------------------- */
+
+/* The waits that are no time, and the longest that is one, in milliseconds. */
+#define SALTBALANCE_FOREVER (-1)
+#define SALTBALANCE_NO_WAIT 0
+#define SALTBALANCE_MOST_WAIT 600000
 
 /* ---- Answers ------------------------------------------------------------------------------------------------------------------ */
 
@@ -113,7 +145,8 @@ enum {
     SALTBALANCE_DIVIDED = 2,
     SALTBALANCE_NOEXIST = 3,
     SALTBALANCE_FREEING = 4,
-    SALTBALANCE_ALLOCATING = 5
+    SALTBALANCE_ALLOCATING = 5,
+    SALTBALANCE_MOST_STATE = SALTBALANCE_ALLOCATING
 };
 
 /* An answer: a number of the two lists above, and its detail, 0 where none is named. */
@@ -137,14 +170,17 @@ typedef struct saltbalance_mapped {
 
 /* ---- Calls -------------------------------------------------------------------------------------------------------------------- */
 
+/* The lengths of the tables to lend for a shape; all are 0 where the shape is not allowed. */
+saltbalance_lengths saltbalance_lengths_of(saltbalance_shape shape);
+
 /* The tables become those of a fresh pool, whatever they held: all bytes free, no call open, clock 0, nobody running. Answers BUILT, or
  * refuses with SHAPE_NOT_ALLOWED or WRONG_LENGTH. */
 saltbalance_answer saltbalance_build(saltbalance_device *device, saltbalance_shape shape, uint8_t *states, size_t states_length,
                                      uint8_t *owners, size_t owners_length, uint16_t *lists, size_t lists_length, uint64_t *calls,
                                      size_t calls_length, uint8_t *queue, size_t queue_length);
 
-/* The running thread asks for a block of at least `size` bytes (0: the smallest block). `wait` in milliseconds: -1 forever, 0 not at
- * all, else 1 to 600000. Answers OPENED: now `go_on`. Refuses with 1 to 5, CALL_OPEN, SIZE_ABOVE_TOP or WAIT_OUTSIDE. */
+/* The running thread asks for a block of at least `size` bytes (0: the smallest block). `wait` in milliseconds: 1 to
+ * MOST_WAIT, or FOREVER or NO_WAIT. Answers OPENED: now `go_on`. Refuses with 1 to 5, CALL_OPEN, SIZE_ABOVE_TOP or WAIT_OUTSIDE. */
 saltbalance_answer saltbalance_ask(saltbalance_device device, saltbalance_shape shape, const uint8_t *states, size_t states_length,
                                    const uint8_t *owners, size_t owners_length, const uint16_t *lists, size_t lists_length,
                                    uint64_t *calls, size_t calls_length, const uint8_t *queue, size_t queue_length, size_t thread,
@@ -176,7 +212,8 @@ saltbalance_answer saltbalance_tick(saltbalance_device *device, saltbalance_shap
                                     uint64_t *calls, size_t calls_length, uint8_t *queue, size_t queue_length);
 
 /* Has everything come home? Answers WHOLE exactly when all bytes are free and no thread has a call open, else NOT_WHOLE. Refuses with 1
- * to 3. The light goes green on WHOLE and on nothing else. */
+ * to 3. Whole is not complete: a writer that was refused, timed out or has not asked yet holds nothing and has no call open. So a light
+ * goes green only if the copy task knows of no unfinished piece and the pool, asked after it, is WHOLE (docs/FIRMWARE.md). */
 saltbalance_answer saltbalance_whole(saltbalance_device device, saltbalance_shape shape, const uint8_t *states, size_t states_length,
                                      const uint8_t *owners, size_t owners_length, const uint16_t *lists, size_t lists_length,
                                      const uint64_t *calls, size_t calls_length, const uint8_t *queue, size_t queue_length);

@@ -11,7 +11,7 @@
 
 /* The pool: one top block of 1,024 bytes, which splits into blocks of 256 and of 64 bytes; two threads. */
 enum { POOL = 1, THREADS = 2, LEVELS = 3, TOPS = 1, TOP_SIZE = 1024 };
-enum { NO_WAIT = 0, THREAD = 0 };
+enum { THREAD = 0 };
 
 static const saltbalance_shape shape = {
     .pool = POOL, .threads = THREADS, .levels = LEVELS, .tops = TOPS, .top_size = TOP_SIZE};
@@ -94,9 +94,9 @@ int main(void) {
 
     printf("Thread %d runs, and asks for 50 bytes without waiting.\n", THREAD);
     expect("switch", saltbalance_switch(&device, shape, TABLES, THREAD).number, SALTBALANCE_SWITCHED);
-    expect("ask", saltbalance_ask(device, shape, TABLES, THREAD, 50, NO_WAIT).number, SALTBALANCE_OPENED);
+    expect("ask", saltbalance_ask(device, shape, TABLES, THREAD, 50, SALTBALANCE_NO_WAIT).number, SALTBALANCE_OPENED);
     size_t id = go_on_until_granted();
-    expect("id", id, POOL + 256 * 2 + 4096 * 0);
+    expect("id", id, SALTBALANCE_ID(POOL, 2, 0));
 
     memset(memory + SALTBALANCE_OFFSET(id, TOP_SIZE), 7, SALTBALANCE_SIZE(id, TOP_SIZE));
     printf("The buffer is used.\n");

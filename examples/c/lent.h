@@ -1,11 +1,11 @@
 /*
- * Tables on the heap, each exactly as long as it says, so that a memory checker sees every step beyond an end; copies of them; and all
- * nine calls by name, so that a check can be made of each.
+ * Tables on the heap, each exactly as long as it says, so that a memory checker sees every step beyond an end; copies of them; and calls
+ * on them.
  */
 #ifndef LENT_H
 #define LENT_H
 
-#include "saltbalance.h"
+#include "calls.h"
 
 #include <stdio.h>
 #include <stdlib.h>
@@ -27,17 +27,6 @@ typedef struct lent {
     uint8_t *queue;
     uint32_t *row;
 } lent;
-
-/* The numbers that calls take besides the tables. */
-typedef struct numbers {
-    size_t thread, size, id, offset;
-    int32_t wait;
-} numbers;
-
-/* The calls. */
-typedef enum name { BUILD, ASK, GO_ON, GIVE_BACK, SWITCH, TICK, WHOLE, COVER, MAP, NAMES } name;
-
-static const char *const words[NAMES] = {"build", "ask", "go on", "give back", "switch", "tick", "whole", "cover", "map"};
 
 /* The lengths that the header's macros give for a shape. */
 static lengths right_lengths(saltbalance_shape s) {
@@ -117,33 +106,20 @@ static int same(const lent *a, const lent *b) {
            equal(a->queue, b->queue, a->length.queue * sizeof(uint8_t)) && equal(a->row, b->row, a->length.row * sizeof(uint32_t));
 }
 
-/* The tables as a call takes them: each with its length. */
-#define TABLES(t)                                                                                                                      \
-    (t)->states, (t)->length.states, (t)->owners, (t)->length.owners, (t)->lists, (t)->length.lists, (t)->calls, (t)->length.calls,    \
-        (t)->queue, (t)->length.queue
-
-/* Makes a call. Answers the number of its answer, or of its refusal; 0 for a cover or a map that is not refused. */
+/* Makes a call on the tables, as calls.h answers it. */
 static size_t make(name call, lent *t, saltbalance_shape s, numbers n) {
-    switch (call) {
-    case BUILD:
-        return saltbalance_build(&t->device, s, TABLES(t)).number;
-    case ASK:
-        return saltbalance_ask(t->device, s, TABLES(t), n.thread, n.size, n.wait).number;
-    case GO_ON:
-        return saltbalance_go_on(&t->device, s, TABLES(t), n.thread).number;
-    case GIVE_BACK:
-        return saltbalance_give_back(t->device, s, TABLES(t), n.thread, n.id).number;
-    case SWITCH:
-        return saltbalance_switch(&t->device, s, TABLES(t), n.thread).number;
-    case TICK:
-        return saltbalance_tick(&t->device, s, TABLES(t)).number;
-    case WHOLE:
-        return saltbalance_whole(t->device, s, TABLES(t)).number;
-    case COVER:
-        return saltbalance_cover(t->device, s, TABLES(t), n.offset).refusal;
-    default:
-        return saltbalance_map(t->device, s, TABLES(t), t->row, t->length.row).refusal;
-    }
+    saltbalance_pool pool = {.shape = s,
+                             .device = t->device,
+                             .states = t->states,
+                             .owners = t->owners,
+                             .lists = t->lists,
+                             .calls = t->calls,
+                             .queue = t->queue,
+                             .lengths = {t->length.states, t->length.owners, t->length.lists, t->length.calls, t->length.queue},
+                             .memory = NULL};
+    size_t answered = make_call(call, &pool, t->row, t->length.row, n);
+    t->device = pool.device;
+    return answered;
 }
 
 #endif

@@ -21,7 +21,7 @@ fn machine() -> String {
 pub fn document(names: &[&str], all: &[Figures], scripts: Option<&[Timed]>, rounds: Rounds) -> String {
     let proved = names.len() == 3;
     let parts = [
-        "# Benchmarks\n\nWritten by bench/run, which measured every figure here. Run it again for those of another machine.\n\n"
+        "# Benchmarks\n\nEvery figure here was measured by bench/run. `bench/run --write` measures again and writes this page.\n\n"
             .to_string(),
         if proved { goals::goals(all, scripts) } else { String::new() },
         machine(),

@@ -10,6 +10,7 @@ use crate::id::Id;
 /// let granted = Answer::Granted { id: Id(257) };
 /// assert_eq!((granted.number(), granted.detail()), (45, 257));
 /// ```
+#[non_exhaustive]
 #[derive(Clone, Copy, Debug, PartialEq, Eq, Hash)]
 pub enum Answer {
     /// A call is open: go on.
@@ -65,6 +66,7 @@ pub enum Answer {
 
 impl Answer {
     /// The paper's number of this answer.
+    #[must_use]
     pub fn number(self) -> usize {
         match self {
             Answer::Opened => 40,
@@ -85,6 +87,7 @@ impl Answer {
     }
 
     /// The paper's detail of this answer: a level, an id or a number of threads; 0 where none is named.
+    #[must_use]
     pub fn detail(self) -> usize {
         match self {
             Answer::Found { level } => level,

@@ -20,6 +20,7 @@ pub struct Device {
 
 impl Device {
     /// The thread that runs, if there is one.
+    #[must_use]
     pub fn thread(&self) -> Option<usize> {
         self.running.checked_sub(1).map(|thread| thread as usize)
     }
@@ -30,14 +31,9 @@ impl Device {
 /// A tick is 10 milliseconds: a wait lasts its milliseconds / 10, rounded up, in ticks.
 ///
 /// ```
-/// use saltbalance::{Answer, Millis, Pool, Refusal, Shape};
+/// use saltbalance::Millis;
 ///
-/// let mut pool = Pool::build(Shape { pool: 1, threads: 2, levels: 2, tops: 1, top_size: 64 })?;
-/// pool.switch(0)?;
-/// assert_eq!(pool.ask(0, 16, Millis(-2)), Err(Refusal::WaitOutside));
-/// assert_eq!(pool.ask(0, 16, Millis(11)), Ok(Answer::Opened));
-/// assert_eq!(pool.tables().calls[3], 2); // the deadline: two ticks from clock 0
-/// # Ok::<(), Refusal>(())
+/// assert_eq!([Millis::FOREVER, Millis::NONE, Millis::LONGEST], [Millis(-1), Millis(0), Millis(600_000)]);
 /// ```
 #[derive(Clone, Copy, Debug, PartialEq, Eq, PartialOrd, Ord, Hash)]
 pub struct Millis(pub i32);

@@ -1,13 +1,13 @@
 //! The id of a block.
 
 use crate::shape::Shape;
-use std::fmt;
-use std::ops::Range;
+use core::fmt;
+use core::ops::Range;
 
 /// The id of a block: pool + 256 × level + 4,096 × block.
 ///
-/// An id is a plain number, and any number may be handed to [`Pool::give_back`](crate::Pool::give_back): one that names no block of
-/// the pool is refused.
+/// An id is a plain number, and any number may be handed to [`Tables::give_back`](crate::Tables::give_back): one that names no block
+/// of the pool is refused.
 ///
 /// ```
 /// use saltbalance::{Id, Shape};
@@ -27,32 +27,43 @@ use std::ops::Range;
 pub struct Id(pub u32);
 
 impl Id {
+    /// The id of a block of an allowed shape.
+    pub(crate) fn of(shape: &Shape, level: usize, block: usize) -> Id {
+        Id((shape.pool + 256 * level + 4096 * block) as u32)
+    }
+
     /// The number of the pool.
+    #[must_use]
     pub fn pool(self) -> usize {
         self.0 as usize & 255
     }
 
     /// The level of the block: 0 for a top block.
+    #[must_use]
     pub fn level(self) -> usize {
         self.0 as usize >> 8 & 15
     }
 
     /// The number of the block within its level.
+    #[must_use]
     pub fn block(self) -> usize {
         self.0 as usize >> 12
     }
 
     /// The bytes of the block in a pool of this shape.
+    #[must_use]
     pub fn size(self, shape: &Shape) -> usize {
         shape.size(self.level())
     }
 
     /// Where the block starts in a pool of this shape.
+    #[must_use]
     pub fn offset(self, shape: &Shape) -> usize {
         self.block().saturating_mul(self.size(shape))
     }
 
     /// The places of the block's bytes in a pool of this shape, to take a part of the buffers' memory with.
+    #[must_use]
     pub fn range(self, shape: &Shape) -> Range<usize> {
         let start = self.offset(shape);
         start..start.saturating_add(self.size(shape))

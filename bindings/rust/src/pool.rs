@@ -1,12 +1,15 @@
 //! A pool that owns its tables.
 
+mod questions;
+
 use crate::answer::Answer;
 use crate::device::{Device, Millis};
 use crate::id::Id;
 use crate::refusal::Refusal;
 use crate::shape::Shape;
-use crate::state::Covered;
 use crate::tables::{Tables, View};
+use alloc::vec;
+use alloc::vec::Vec;
 
 /// A pool that owns its tables and its record.
 ///
@@ -103,7 +106,8 @@ impl Pool {
     /// pool.switch(0)?;
     /// assert_eq!(pool.ask(0, 65, Millis::NONE), Err(Refusal::SizeAboveTop));
     /// assert_eq!(pool.ask(0, 16, Millis(600_001)), Err(Refusal::WaitOutside));
-    /// assert_eq!(pool.ask(0, 16, Millis::NONE), Ok(Answer::Opened));
+    /// assert_eq!(pool.ask(0, 16, Millis(11)), Ok(Answer::Opened));
+    /// assert_eq!(pool.tables().calls[3], 2); // the deadline: two ticks from clock 0
     /// assert_eq!(pool.ask(0, 16, Millis::NONE), Err(Refusal::CallOpen));
     /// # Ok::<(), Refusal>(())
     /// ```
@@ -130,6 +134,7 @@ impl Pool {
     /// assert_eq!(pool.go_on(0)?, Answer::Granted { id: Id(257) });
     /// # Ok::<(), Refusal>(())
     /// ```
+    #[must_use = "a granted block's id stands in the answer"]
     pub fn go_on(&mut self, thread: usize) -> Result<Answer, Refusal> {
         let shape = self.shape;
         let (device, mut tables) = self.lend();
@@ -186,66 +191,14 @@ impl Pool {
         tables.tick(device, shape)
     }
 
-    /// Whole: [`Answer::Whole`] exactly when all bytes are free and no thread has a call open, else [`Answer::NotWhole`].
-    ///
-    /// ```
-    /// # use saltbalance::{Answer, Millis, Pool, Refusal, Shape};
-    /// let mut pool = Pool::build(Shape { pool: 1, threads: 2, levels: 2, tops: 1, top_size: 64 })?;
-    /// assert_eq!(pool.whole(), Ok(Answer::Whole));
-    /// pool.switch(0)?;
-    /// pool.ask(0, 16, Millis::NONE)?;
-    /// assert_eq!(pool.whole(), Ok(Answer::NotWhole));
-    /// # Ok::<(), Refusal>(())
-    /// ```
-    pub fn whole(&self) -> Result<Answer, Refusal> {
-        self.tables().whole(self.device, self.shape)
-    }
-
-    /// Whether *whole* answers [`Answer::Whole`]: everything has come home. A light goes green on this and on nothing else.
-    pub fn is_whole(&self) -> bool {
-        self.whole() == Ok(Answer::Whole)
-    }
-
-    /// Cover: the one undivided block over a byte of the pool, with its state. Refused with 18.
-    ///
-    /// ```
-    /// # use saltbalance::{Covered, Id, Pool, Refusal, Shape, State};
-    /// let pool = Pool::build(Shape { pool: 1, threads: 2, levels: 2, tops: 2, top_size: 64 })?;
-    /// assert_eq!(pool.cover(127), Ok(Covered { id: Id(4097), state: State::Free }));
-    /// assert_eq!(pool.cover(128), Err(Refusal::OffsetOutside));
-    /// # Ok::<(), Refusal>(())
-    /// ```
-    pub fn cover(&self, offset: usize) -> Result<Covered, Refusal> {
-        self.tables().cover(self.device, self.shape, offset)
-    }
-
-    /// Map: the ids of all undivided blocks by address. Each begins where the last ended, and their sizes sum to the pool.
-    ///
-    /// ```
-    /// # use saltbalance::{Answer, Id, Millis, Pool, Refusal, Shape};
-    /// let mut pool = Pool::build(Shape { pool: 1, threads: 2, levels: 2, tops: 2, top_size: 64 })?;
-    /// assert_eq!(pool.map()?, [Id(1), Id(4097)]);
-    ///
-    /// // A top block is split for a quarter of it, and is then listed as its four quarters.
-    /// pool.switch(0)?;
-    /// pool.ask(0, 16, Millis::NONE)?;
-    /// while !matches!(pool.go_on(0)?, Answer::Granted { .. }) {}
-    /// assert_eq!(pool.map()?, [Id(257), Id(4353), Id(8449), Id(12545), Id(4097)]);
-    /// # Ok::<(), Refusal>(())
-    /// ```
-    pub fn map(&self) -> Result<Vec<Id>, Refusal> {
-        let mut row = vec![Id::default(); self.states.len()];
-        let blocks = self.tables().map(self.device, self.shape, &mut row)?;
-        row.truncate(blocks);
-        Ok(row)
-    }
-
     /// The shape.
+    #[must_use]
     pub fn shape(&self) -> &Shape {
         &self.shape
     }
 
     /// The record of clock and running thread.
+    #[must_use]
     pub fn device(&self) -> &Device {
         &self.device
     }
@@ -260,6 +213,7 @@ impl Pool {
     /// assert!(states[1..].iter().all(|&state| state == State::NoExist.number()));
     /// # Ok::<(), Refusal>(())
     /// ```
+    #[must_use]
     pub fn tables(&self) -> View<'_> {
         View { states: &self.states, owners: &self.owners, lists: &self.lists, calls: &self.calls, queue: &self.queue }
     }

@@ -1,7 +1,7 @@
 //! Why a call is refused.
 
-use std::error::Error;
-use std::fmt;
+use core::error::Error;
+use core::fmt;
 
 /// Why a call is refused, by the paper's words and numbers. They are tried in this order, and the first that holds is given.
 ///
@@ -15,6 +15,7 @@ use std::fmt;
 /// assert_eq!(Refusal::NoRoom.to_string(), "no room (refusal 14)");
 /// ```
 #[repr(u8)]
+#[non_exhaustive]
 #[derive(Clone, Copy, Debug, PartialEq, Eq, PartialOrd, Ord, Hash)]
 pub enum Refusal {
     /// The shape's numbers lie outside the limits. Given by all calls.
@@ -82,11 +83,13 @@ const ALL: [Refusal; 19] = [
 
 impl Refusal {
     /// The paper's number of this refusal.
+    #[must_use]
     pub fn number(self) -> usize {
         self as usize
     }
 
     /// The refusal with this number, if there is one.
+    #[must_use]
     pub fn from_number(number: usize) -> Option<Refusal> {
         ALL.get(number.checked_sub(1)?).copied()
     }

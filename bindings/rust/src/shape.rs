@@ -49,10 +49,17 @@ pub struct Lengths {
 }
 
 impl Shape {
+    /// Into how many parts a block is split.
+    pub const PARTS: usize = 4;
+
+    /// How many cells a thread has in the table of calls. The first one is its call's stage, 0 where no call is open.
+    pub const CELLS: usize = 6;
+
     /// Whether the numbers lie within the limits.
     ///
     /// The rule is stated once, in the proved code, and asked there: building on empty tables is refused for the shape, or else for
     /// the lengths.
+    #[must_use]
     pub fn allowed(&self) -> bool {
         boundary::build_on_nothing(*self) == Err(Refusal::WrongLength)
     }
@@ -75,22 +82,40 @@ impl Shape {
             return Err(Refusal::ShapeNotAllowed);
         }
         let blocks = self.blocks();
-        Ok(Lengths { states: blocks, owners: blocks, lists: self.levels + blocks, calls: 6 * self.threads, queue: self.threads + 1 })
+        Ok(Lengths {
+            states: blocks,
+            owners: blocks,
+            lists: self.levels + blocks,
+            calls: Shape::CELLS * self.threads,
+            queue: self.threads + 1,
+        })
     }
 
     /// The block size at a level, in bytes: the top size / 4 to the power of the level.
+    #[must_use]
     pub fn size(&self, level: usize) -> usize {
-        let parts = u32::try_from(level).ok().and_then(|level| 4usize.checked_pow(level));
-        parts.map_or(0, |parts| self.top_size / parts)
+        self.top_size / parts_of_top(level)
+    }
+
+    /// How many blocks a level has: the top blocks × 4 to the power of the level.
+    #[must_use]
+    pub fn count(&self, level: usize) -> usize {
+        self.tops.saturating_mul(parts_of_top(level))
     }
 
     /// The bytes of the whole pool.
+    #[must_use]
     pub fn bytes(&self) -> usize {
         self.tops.saturating_mul(self.top_size)
     }
 
-    /// The number of blocks of all levels of an allowed shape: each level has four times as many as the one above.
+    /// The number of blocks of all levels of an allowed shape.
     fn blocks(&self) -> usize {
-        (0..self.levels).map(|level| self.tops << (2 * level)).sum()
+        (0..self.levels).map(|level| self.count(level)).sum()
     }
+}
+
+/// How many blocks of a level a top block has, or the largest number where that is above it.
+fn parts_of_top(level: usize) -> usize {
+    u32::try_from(level).map_or(usize::MAX, |level| Shape::PARTS.saturating_pow(level))
 }

@@ -4,6 +4,7 @@ use crate::id::Id;
 
 /// The state of a block, with the paper's numbers, which also stand in the table of states.
 #[repr(u8)]
+#[non_exhaustive]
 #[derive(Clone, Copy, Debug, PartialEq, Eq, PartialOrd, Ord, Hash)]
 pub enum State {
     /// A thread holds the block.
@@ -20,7 +21,7 @@ pub enum State {
     Allocating = 5,
 }
 
-/// What *cover* answers: the one undivided block over a byte (see [`Pool::cover`](crate::Pool::cover)).
+/// What *cover* answers: the one undivided block over a byte (see [`View::cover`](crate::View::cover)).
 #[derive(Clone, Copy, Debug, PartialEq, Eq, Hash)]
 pub struct Covered {
     /// The block.
@@ -31,6 +32,7 @@ pub struct Covered {
 
 impl State {
     /// The paper's number of this state.
+    #[must_use]
     pub fn number(self) -> u8 {
         self as u8
     }
@@ -43,6 +45,7 @@ impl State {
     /// assert_eq!(State::from_number(5), Some(State::Allocating));
     /// assert_eq!(State::from_number(6), None);
     /// ```
+    #[must_use]
     pub fn from_number(number: u8) -> Option<State> {
         Some(match number {
             0 => State::Allocated,

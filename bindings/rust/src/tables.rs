@@ -85,6 +85,7 @@ pub struct View<'a> {
 
 impl Tables<'_> {
     /// The same tables for reading.
+    #[must_use]
     pub fn view(&self) -> View<'_> {
         View { states: self.states, owners: self.owners, lists: self.lists, calls: self.calls, queue: self.queue }
     }
@@ -100,6 +101,7 @@ impl Tables<'_> {
     }
 
     /// Go on: the running thread's call makes its next step.
+    #[must_use = "a granted block's id stands in the answer"]
     pub fn go_on(&mut self, device: &mut Device, shape: Shape, thread: usize) -> Result<Answer, Refusal> {
         boundary::go_on(device, shape, self, thread)
     }

@@ -1,5 +1,6 @@
 //! The paper's example script, step by step: shape, switch 0, ask 0 for 16 with wait 0, go on four times, whole, give 257, go on twice,
 //! whole.
+#![cfg(feature = "alloc")]
 
 use saltbalance::{Answer, Id, Millis, Pool, Shape};
 

@@ -1,4 +1,5 @@
 //! The paper's cases on either side of its lines, on a running pool.
+#![cfg(feature = "alloc")]
 
 mod common;
 

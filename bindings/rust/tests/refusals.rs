@@ -1,4 +1,5 @@
 //! Each refusal that an owned pool can meet, and what it leaves: nothing is altered, but no room and timed out close the asker's call.
+#![cfg(feature = "alloc")]
 
 mod common;
 

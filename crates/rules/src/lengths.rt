@@ -4,6 +4,7 @@ use shape::Shape;
 ghost use mathlib.Core.Path.{_≡_};
 ghost use Rattle.rules.specs.Tables.{tableLengths};
 
+#[repr(C)]
 pub struct Lengths {
     pub states: usize,
     pub owners: usize,

@@ -2,16 +2,26 @@
 pub mod said;
 
 use rules::Device;
+use rules::lengths;
+use rules::lengths::Lengths;
 use said::CoveredBlock;
 use said::MappedBlocks;
 use said::Said;
 use shape::Shape;
 use shape::time::Millis;
 ghost use mathlib.Core.Path.{_≡_};
-ghost use Rattle.rules.specs.Tables.{state};
+ghost use Rattle.rules.specs.Tables.{state, tableLengths};
 ghost use Rattle.rules.specs.Calls.{build, ask, goOn, give, switch, tick};
 ghost use Rattle.rules.specs.Questions.{whole, cover, mapPool};
 ghost use Rattle.saltbalance_c.specs.Said.{millis, said, block, told, tell, rowTold, tellRow};
+
+// The lengths of the tables to lend for a shape. All are 0 where the shape is not allowed.
+#[no_mangle]
+pub extern "C" fn saltbalance_lengths_of(s: Shape) -> Lengths
+    ensures { λ r. ⌜ r ≡ tableLengths s ⌝ }
+{
+    lengths::lengths_of(s)
+}
 
 // Build: the lent tables become those of a fresh pool, and the record's clock and runner with them.
 #[no_mangle]

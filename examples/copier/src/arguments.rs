@@ -13,7 +13,11 @@ usage: copier [--stop-writer] [FROM TO]
   --stop-writer   the writer stops halfway through taking its last buffer: the light must stay off
   --help          shows this text
 
-exit status: 0 if the light showed what is right, 1 if it did not or the copy failed, 2 for a wrong command line";
+The last line of every run says whether the light is green. SIGINT or SIGTERM stops the run: the light stays off,
+and what was copied into TO so far stays there.
+
+exit status: 0 if the light showed what is right, 1 if it did not or the copy failed, 2 for a wrong command line,
+             130 or 143 if the run was stopped";
 
 /// What the command line asks for.
 #[derive(Debug, PartialEq, Eq)]

@@ -3,18 +3,23 @@
 use std::fs;
 use std::io;
 use std::path::{Path, PathBuf};
+use std::time::SystemTime;
 
 /// The longest piece, and so the largest buffer that a task asks for.
 pub const PIECE: usize = 16_384;
 
-/// A file of the card.
+/// A file of the card, as it was when it was listed.
+#[derive(PartialEq, Eq)]
 pub struct CardFile {
     /// Its path below the card's folder.
     pub path: PathBuf,
     pub length: u64,
+    /// When it was last written to.
+    pub modified: SystemTime,
 }
 
 /// What is to be copied.
+#[derive(PartialEq, Eq)]
 pub struct Card {
     pub folders: Vec<PathBuf>,
     pub files: Vec<CardFile>,
@@ -53,7 +58,8 @@ impl Card {
                 self.folders.push(path.clone());
                 self.add(root, &path)?;
             } else if about.is_file() {
-                self.files.push(CardFile { path, length: about.len() });
+                let modified = about.modified().map_err(unreadable)?;
+                self.files.push(CardFile { path, length: about.len(), modified });
             } else {
                 return Err(format!("{} is neither a file nor a folder, so a copy would not be complete", root.join(&path).display()));
             }

@@ -2,6 +2,7 @@
 
 use crate::card::CardFile;
 use crate::files::Job;
+use crate::stop;
 use std::fs::File;
 use std::io::{self, BufRead, BufReader, ErrorKind};
 use std::path::Path;
@@ -31,6 +32,7 @@ fn same(original: &Path, copy: &Path) -> io::Result<bool> {
         opened => BufReader::new(opened?),
     };
     loop {
+        stop::check().map_err(io::Error::other)?;
         let (left, right) = (original.fill_buf()?, copy.fill_buf()?);
         let length = left.len().min(right.len());
         if left[..length] != right[..length] {

@@ -10,16 +10,23 @@ pub struct Job {
     pub card: Card,
     pub from: PathBuf,
     pub to: PathBuf,
+    /// The folders above `to` in which a folder is made for it: none where `to` is there already.
+    pub above: Vec<PathBuf>,
 }
 
 impl Job {
     /// Makes the folders of the card on the drive.
     pub fn make_folders(&self) -> Result<(), String> {
-        let folders = self.card.folders.iter().map(|folder| self.to.join(folder));
-        for folder in [self.to.clone()].into_iter().chain(folders) {
+        for folder in self.drive_folders() {
             fs::create_dir_all(&folder).map_err(|error| format!("cannot make the folder {}: {error}", folder.display()))?;
         }
         Ok(())
+    }
+
+    /// The folders on the drive.
+    pub fn drive_folders(&self) -> Vec<PathBuf> {
+        let below = self.card.folders.iter().map(|folder| self.to.join(folder));
+        [self.to.clone()].into_iter().chain(below).collect()
     }
 
     /// Reads a piece of the card into a buffer.

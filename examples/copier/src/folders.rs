@@ -20,9 +20,17 @@ pub fn job(from: PathBuf, to: PathBuf) -> Result<Job, String> {
     if card.files.is_empty() {
         return Err(format!("there is no file to copy in {}", from.display()));
     }
-    let job = Job { card, from, to };
+    let above = above(&to)?;
+    let job = Job { card, from, to, above };
     job.make_folders()?;
     Ok(job)
+}
+
+/// The folders in which a folder must be made so that a path is there.
+fn above(path: &Path) -> Result<Vec<PathBuf>, String> {
+    let path = absolute(path)?;
+    let missing = path.ancestors().take_while(|ancestor| !ancestor.exists());
+    Ok(missing.filter_map(Path::parent).map(Path::to_path_buf).collect())
 }
 
 fn is_empty_folder(path: &Path) -> bool {
@@ -32,9 +40,13 @@ fn is_empty_folder(path: &Path) -> bool {
 /// Whether a path, which need not exist yet, lies inside a folder.
 fn is_inside(path: &Path, folder: &Path) -> Result<bool, String> {
     let unknown = |error| format!("cannot find {}: {error}", path.display());
-    let path = std::path::absolute(path).map_err(unknown)?;
+    let path = absolute(path)?;
     let known = path.ancestors().find(|ancestor| ancestor.exists()).unwrap_or(&path);
     let known = known.canonicalize().map_err(unknown)?;
     let folder = folder.canonicalize().map_err(|error| format!("cannot find {}: {error}", folder.display()))?;
     Ok(known.starts_with(folder))
+}
+
+fn absolute(path: &Path) -> Result<PathBuf, String> {
+    std::path::absolute(path).map_err(|error| format!("cannot find {}: {error}", path.display()))
 }

@@ -1,5 +1,10 @@
-//! The light: shows how far the copy is, and goes green when no orders are left and the pool is whole, and on nothing else.
+//! The light: shows how far the copy is, and goes green if, asked in this order,
+//!
+//! 1. no orders are left, and every file is verified: so it was also written through to the drive;
+//! 2. the folders are written through to the drive, and the card is as it was listed (`confirm`);
+//! 3. no orders are left, and the pool is whole.
 
+use crate::confirm;
 use crate::files::Job;
 use crate::seen::Seen;
 use crate::station::{Halt, Progress};
@@ -34,9 +39,13 @@ pub fn work(task: Task<'_>, job: &Job) -> Result<Shown, Halt> {
         if tenths(&done, job) > tenths_shown && show_line(task, &words::progress(&done, job))? {
             tenths_shown = tenths(&done, job);
         }
-        if seen.green() {
-            words::say(format!("\n{}\nLIGHT: GREEN. The copy is on the drive, pull it.", words::rules(&seen)));
-            return Ok(Shown::Green);
+        if seen.green() && done.verified_files == job.card.files.len() {
+            confirm::confirm(job)?;
+            let seen = task.station.look(Seen::now)?;
+            if seen.green() {
+                words::say(format!("\n{}", words::rules(&seen)));
+                return Ok(Shown::Green);
+            }
         }
         if let (Some((piece, level)), true) = (stopped, seen.old_rule()) {
             words::say(format!("{}\n{}", words::stopped(piece, level, job), words::rules(&seen)));
@@ -45,7 +54,7 @@ pub fn work(task: Task<'_>, job: &Job) -> Result<Shown, Halt> {
         if done != moved.0 {
             moved = (done, Instant::now());
         } else if moved.1.elapsed() > PATIENCE {
-            words::say(format!("LIGHT: off. Nothing has moved for {} seconds.", PATIENCE.as_secs()));
+            words::say(format!("Nothing has moved for {} seconds.", PATIENCE.as_secs()));
             return Ok(Shown::Off);
         }
         thread::sleep(PAUSE);
@@ -94,6 +103,6 @@ fn watch(task: Task<'_>) -> Result<Shown, Halt> {
         looks += 1;
         thread::sleep(PAUSE);
     }
-    words::say(format!("LIGHT: off. {looks} more looks in {} milliseconds, and it was never green.", WATCH.as_millis()));
+    words::say(format!("{looks} more looks in {} milliseconds, and the light was never green.", WATCH.as_millis()));
     Ok(Shown::Off)
 }

@@ -1,11 +1,12 @@
-//! A copier: card reader, writer, verifier and light take their buffers from one Saltbalance pool. The light goes green when every
-//! buffer has come home. With `--stop-writer` the writer stops halfway through taking its last buffer, and the light stays off.
+//! A copier: card reader, writer, verifier and light take their buffers from one Saltbalance pool. The light goes green when the copy is
+//! complete and every buffer has come home. With `--stop-writer` the writer stops halfway through taking its last buffer, and the light stays off.
 
 mod arguments;
 mod card;
 mod check;
 mod clips;
 mod clock;
+mod confirm;
 mod copy;
 mod files;
 mod folders;
@@ -14,6 +15,7 @@ mod memory;
 mod reader;
 mod seen;
 mod station;
+mod stop;
 mod task;
 mod verifier;
 mod words;
@@ -24,6 +26,7 @@ use clips::Temporary;
 use files::Job;
 use light::Shown;
 use std::env;
+use std::panic;
 use std::process::ExitCode;
 
 fn main() -> ExitCode {
@@ -38,17 +41,36 @@ fn main() -> ExitCode {
             return ExitCode::from(2);
         }
     };
-    match run(arguments) {
-        Ok(()) => ExitCode::SUCCESS,
-        Err(problem) => {
-            eprintln!("copier: {problem}");
-            ExitCode::FAILURE
-        }
+    stop::watch();
+    say_off_in_a_panic();
+    let ended = run(arguments);
+    if let Err(problem) = &ended {
+        eprintln!("copier: {problem}");
+    }
+    words::say(words::light(&ended));
+    status(&ended)
+}
+
+/// The exit status: for a run that a signal stopped, 128 and the signal's number, as shells count.
+fn status(ended: &Result<Shown, String>) -> ExitCode {
+    match (ended, stop::came()) {
+        (Ok(_), _) => ExitCode::SUCCESS,
+        (Err(_), None) => ExitCode::FAILURE,
+        (Err(_), Some(signal)) => ExitCode::from(128 + signal as u8),
     }
 }
 
-/// Copies, and looks whether the light showed what is right.
-fn run(arguments: Arguments) -> Result<(), String> {
+/// A task that panics ends the program, and the light's line is still its last.
+fn say_off_in_a_panic() {
+    let report = panic::take_hook();
+    panic::set_hook(Box::new(move |about| {
+        report(about);
+        words::say(words::OFF);
+    }));
+}
+
+/// Copies, and looks whether the light showed what is right. Answers what it showed; a temporary folder is gone then.
+fn run(arguments: Arguments) -> Result<Shown, String> {
     let stop_writer = arguments.stop_writer;
     let made: Temporary;
     let (from, to) = match arguments.folders {
@@ -64,7 +86,9 @@ fn run(arguments: Arguments) -> Result<(), String> {
     let job = folders::job(from, to)?;
     words::say(words::beginning(&job));
     let shown = copy::copy(&job, stop_writer)?;
-    judge(&job, shown, stop_writer)
+    judge(&job, shown, stop_writer)?;
+    stop::check()?;
+    Ok(shown)
 }
 
 /// Whether the light showed what is right: green for a copy that is there byte for byte, off for one that lacks its end.
@@ -77,8 +101,8 @@ fn judge(job: &Job, shown: Shown, stop_writer: bool) -> Result<(), String> {
         words::say(format!("{} has {there} of its {all} bytes there.", file.path.display()));
     }
     match (shown, stop_writer, differing.len()) {
-        (Shown::Green, false, 0) => words::say("Green was right."),
-        (Shown::Off, true, 1) => words::say("Green would have cost the end of that file. Off was right."),
+        (Shown::Green, false, 0) => words::say("Green is right."),
+        (Shown::Off, true, 1) => words::say("Green would cost the end of that file. Off is right."),
         (Shown::Green, ..) => return Err("the light was green, and should not have been".to_string()),
         (Shown::Off, ..) => return Err("the light stayed off, and this is not what should have happened".to_string()),
     }

@@ -1,10 +1,7 @@
 //! What the light sees in one lock, and the two rules by which a light may go green: the old pool's and this one's.
 
 use crate::station::Shared;
-use saltbalance::State;
-
-/// The first of the cells that a call has in the table of calls is its stage, 0 where no call is open.
-const CELLS: usize = 6;
+use saltbalance::{Keeper, Shape, State};
 
 #[derive(Clone, Copy)]
 pub struct Seen {
@@ -14,6 +11,8 @@ pub struct Seen {
     pub held: usize,
     /// Threads that have a call open.
     pub open_calls: usize,
+    /// Who keeps the pool from being whole, if anybody does.
+    pub keeper: Option<Keeper>,
     /// Whether the pool says that it is whole.
     whole: bool,
 }
@@ -24,7 +23,8 @@ impl Seen {
         Seen {
             orders: shared.orders(),
             held: tables.states.iter().filter(|&&state| state == State::Allocated.number()).count(),
-            open_calls: tables.calls.chunks(CELLS).filter(|call| call[0] != 0).count(),
+            open_calls: tables.calls.chunks(Shape::CELLS).filter(|call| call[0] != 0).count(),
+            keeper: shared.pool.keeper().unwrap_or_default(),
             whole: shared.pool.is_whole(),
         }
     }

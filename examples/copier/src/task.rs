@@ -11,6 +11,9 @@ pub const WRITER: usize = 1;
 pub const VERIFIER: usize = 2;
 pub const LIGHT: usize = 3;
 
+/// The name of each task, by that number.
+pub const NAMES: [&str; 4] = ["card reader", "writer", "verifier", "light"];
+
 #[derive(Clone, Copy)]
 pub struct Task<'a> {
     pub station: &'a Station,

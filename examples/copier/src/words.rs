@@ -2,9 +2,26 @@
 
 use crate::card::{Piece, PIECE};
 use crate::files::Job;
+use crate::light::Shown;
 use crate::seen::Seen;
 use crate::station::{Progress, SHAPE};
+use crate::task::NAMES;
+use saltbalance::Keeper;
 use std::io::{self, Write};
+
+/// The last line of a run whose light did not go green.
+pub const OFF: &str = "LIGHT: off. Do not pull the drive.";
+
+/// The last line of a run whose light went green.
+const GREEN: &str = "LIGHT: GREEN. The copy is on the drive, pull it.";
+
+/// The last line of a run.
+pub fn light(ended: &Result<Shown, String>) -> &'static str {
+    match ended {
+        Ok(Shown::Green) => GREEN,
+        Ok(Shown::Off) | Err(_) => OFF,
+    }
+}
 
 /// Writes a text and ends its line. Where nobody reads the output any more, the copy goes on without it.
 pub fn say(text: impl AsRef<str>) {
@@ -57,10 +74,21 @@ pub fn rules(seen: &Seen) -> String {
     format!(
         "Has every buffer come home?\n\
          \x20 the old pool's count:  {:<36}  -> {old}\n\
-         \x20 this pool's whole:     {:<36}  -> {ours}",
+         \x20 this pool's whole:     {:<36}  -> {ours}{}",
         format!("{held} marked held"),
         format!("{held} held, {calls} open"),
+        seen.keeper.map(keeper).unwrap_or_default(),
     )
+}
+
+/// Who keeps the pool from being whole, as a line behind the two rules.
+fn keeper(keeper: Keeper) -> String {
+    let (thread, why) = match keeper {
+        Keeper::Call { thread } => (thread, "has a call open".to_string()),
+        Keeper::Block { id, thread } => (thread, format!("holds the block {id}")),
+        _ => return String::new(),
+    };
+    format!("\n  who keeps it so:       the {} {why}", NAMES[thread])
 }
 
 /// A number with its word.

@@ -1,43 +1,17 @@
 //! The program in both modes and on wrong command lines, as a user runs it.
 
-use std::env;
+mod common;
+
+use common::{run, Folder, GREEN, OFF};
 use std::fs;
-use std::path::{Path, PathBuf};
-use std::process::{self, Command};
-
-/// The status, the output and the errors of a run.
-fn run(arguments: &[&str]) -> (i32, String, String) {
-    let output = Command::new(env!("CARGO_BIN_EXE_copier")).args(arguments).output().unwrap();
-    let text = |bytes: &[u8]| String::from_utf8_lossy(bytes).into_owned();
-    (output.status.code().unwrap_or(-1), text(&output.stdout), text(&output.stderr))
-}
-
-/// A folder of a test's own, removed at the end.
-struct Folder(PathBuf);
-
-impl Folder {
-    fn new(name: &str) -> Folder {
-        let path = env::temp_dir().join(format!("copier-test-{name}-{}", process::id()));
-        fs::create_dir(&path).unwrap();
-        Folder(path)
-    }
-
-    fn path(&self, name: &str) -> String {
-        self.0.join(name).to_str().unwrap().to_string()
-    }
-}
-
-impl Drop for Folder {
-    fn drop(&mut self) {
-        let _ = fs::remove_dir_all(&self.0);
-    }
-}
+use std::path::Path;
+use std::process::Command;
 
 #[test]
 fn the_light_goes_green() {
     let (status, output, errors) = run(&[]);
     assert_eq!(status, 0, "{output}{errors}");
-    assert!(output.contains("LIGHT: GREEN"), "{output}");
+    assert!(output.ends_with(GREEN), "{output}");
     assert!(output.contains("10 of 10 files are on the drive byte for byte"), "{output}");
 }
 
@@ -48,8 +22,8 @@ fn the_light_stays_off_where_the_writer_stops() {
     assert!(output.contains("0 blocks are marked held"), "{output}");
     assert!(output.contains("would say yes: GREEN"), "{output}");
     assert!(output.contains("says not whole: off"), "{output}");
-    assert!(output.contains("LIGHT: off"), "{output}");
-    assert!(!output.contains("LIGHT: GREEN"), "{output}");
+    assert!(output.contains("the writer has a call open"), "{output}");
+    assert!(output.ends_with(OFF), "{output}");
 }
 
 #[test]
@@ -65,13 +39,15 @@ fn a_folder_is_copied() {
     }
     let (status, output, errors) = run(&[&from, &to]);
     assert_eq!(status, 0, "{output}{errors}");
+    assert!(output.ends_with(GREEN), "{output}");
     for (name, _) in files {
         assert_eq!(fs::read(Path::new(&from).join(name)).unwrap(), fs::read(Path::new(&to).join(name)).unwrap(), "{name}");
     }
     assert!(Path::new(&to).join("nothing").is_dir());
 
-    let (status, _, errors) = run(&[&from, &to]);
+    let (status, output, errors) = run(&[&from, &to]);
     assert_eq!(status, 1, "a folder that is not empty is not written over");
+    assert!(output.ends_with(OFF), "{output}");
     assert!(errors.contains("must be new or an empty folder"), "{errors}");
 }
 
@@ -98,7 +74,8 @@ fn a_drive_that_fails_ends_the_run() {
     let errors = String::from_utf8_lossy(&output.stderr);
     assert_eq!(output.status.code(), Some(1), "{errors}");
     assert!(errors.contains("cannot write"), "{errors}");
-    assert!(!String::from_utf8_lossy(&output.stdout).contains("GREEN"));
+    let output = String::from_utf8_lossy(&output.stdout);
+    assert!(output.ends_with(OFF), "{output}");
 }
 
 #[test]

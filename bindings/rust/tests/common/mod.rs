@@ -1,7 +1,9 @@
 //! What several tests use: tables of any lengths, and a pool's call driven to its end.
 #![allow(dead_code)]
 
-use saltbalance::{Answer, Device, Id, Lengths, Millis, Pool, Refusal, Shape, Tables};
+#[cfg(feature = "alloc")]
+use saltbalance::{Answer, Pool};
+use saltbalance::{Device, Id, Lengths, Millis, Refusal, Shape, Tables};
 
 /// Tables of any lengths and contents, and the record, to be lent.
 #[derive(Clone, Debug, PartialEq, Eq)]
@@ -70,6 +72,7 @@ impl Lent {
 }
 
 /// Thread t runs, asks for a size without waiting, and goes on to the grant or to the refusal.
+#[cfg(feature = "alloc")]
 pub fn take(pool: &mut Pool, thread: usize, size: usize) -> Result<Id, Refusal> {
     pool.switch(thread)?;
     pool.ask(thread, size, Millis::NONE)?;
@@ -81,6 +84,7 @@ pub fn take(pool: &mut Pool, thread: usize, size: usize) -> Result<Id, Refusal> 
 }
 
 /// Thread t runs, gives the block back, and goes on until it has settled.
+#[cfg(feature = "alloc")]
 pub fn bring_home(pool: &mut Pool, thread: usize, id: Id) -> Result<(), Refusal> {
     pool.switch(thread)?;
     pool.give_back(thread, id)?;
