@@ -10,6 +10,7 @@ mod kind;
 mod linked;
 mod machine;
 mod measure;
+mod numbers;
 mod patch;
 mod program;
 mod quietest;
