@@ -9,7 +9,7 @@ const ARCHIVE: &str = "libsaltbalance_c.a";
 const LIBRARY: &str = "saltbalance_c";
 
 /// What the C is compiled with: how, then what it is warned of and where headers stand. Functions begin at multiples of 64 bytes, here as in
-/// the archive's copy and in Rust (.cargo/config.toml), so that no figure hangs on where the linker puts a loop.
+/// the archive's copy and in the harness (.cargo/config.toml), so that no figure hangs on where the linker puts a loop.
 const HOW: [&str; 3] = ["-std=c11", "-O3", "-falign-functions=64"];
 const WHERE: [&str; 4] = ["-Wall", "-Wextra", "-I../include", "-I."];
 
@@ -20,9 +20,7 @@ fn main() {
     let out = PathBuf::from(env::var_os("OUT_DIR").expect("cargo sets OUT_DIR"));
     compile_calls(&out);
     compile_runner(&out);
-    if env::var_os("CARGO_FEATURE_ARCHIVE").is_some() {
-        link_archive(&out);
-    }
+    link_archive(&out);
     println!("cargo:rustc-env=BENCH_C_COMPILER={}", first_line("gcc", "--version"));
     println!("cargo:rustc-env=BENCH_RUST_COMPILER={}", first_line("rustc", "--version"));
     println!("cargo:rustc-env=BENCH_C_FLAGS={}", HOW.join(" "));
@@ -56,8 +54,7 @@ fn link_archive(out: &Path) {
     if !archive.is_file() {
         eprintln!("bench: the archive of the proved calls is missing: {}", archive.display());
         eprintln!("    make it at the repository's root with:  rt staticlib {LIBRARY}");
-        eprintln!("    or name the folder that holds {ARCHIVE} in the variable SALTBALANCE_LIB (a full path),");
-        eprintln!("    or leave it out with:  cargo run --release --no-default-features");
+        eprintln!("    or name the folder that holds {ARCHIVE} in the variable SALTBALANCE_LIB (a full path)");
         process::exit(1);
     }
     run(Command::new("objcopy").arg("--set-section-alignment").arg(".text.*=64").arg(&archive).arg(out.join(ARCHIVE)));

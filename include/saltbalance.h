@@ -138,6 +138,9 @@ enum {
     SALTBALANCE_BUILT = 53
 };
 
+/* Whether a number is that of a refusal: these are below those of all steps. */
+static inline int saltbalance_is_refusal(size_t number) { return number != 0 && number < SALTBALANCE_OPENED; }
+
 /* The states of a block, as `saltbalance_cover` tells them. */
 enum {
     SALTBALANCE_ALLOCATED = 0,

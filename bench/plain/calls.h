@@ -7,8 +7,8 @@
 #include <string.h>
 
 /* The stages of a call, and the kinds of wait. */
-enum { CLOSED, ASKED, FOUND, DIVIDING, RELEASING, WAITING };
-enum { NEVER, FOREVER, TIMED };
+enum { CLOSED = 0, ASKED = 1, FOUND = 2, DIVIDING = 3, RELEASING = 4, WAITING = 5 };
+enum { NEVER = 0, FOREVER = 1, TIMED = 2 };
 
 /* The longest wait in milliseconds and in ticks, and the milliseconds of a tick. */
 enum { LONGEST_WAIT = 600000, LONGEST_TICKS = 60000, TICK = 10 };

@@ -11,7 +11,8 @@ static inline bool uses_block(uint64_t stage) { return stage == DIVIDING || stag
 /* Whether stage and kind of wait are known, and the fields that the stage does not use hold zero. */
 static inline bool fields_used(const call *c) {
     bool wait = uses_wait(c->stage), block = uses_block(c->stage);
-    return c->stage <= WAITING && c->wait <= TIMED && (wait || c->stage == DIVIDING || c->size == 0) && (wait || c->wait == 0) &&
+    bool known = (wait || block || c->stage == CLOSED) && (c->wait == NEVER || c->wait == FOREVER || c->wait == TIMED);
+    return known && (wait || c->stage == DIVIDING || c->size == 0) && (wait || c->wait == 0) &&
            ((wait && c->wait == TIMED) || c->deadline == 0) && (c->stage == FOUND || block || c->level == 0) && (block || c->block == 0);
 }
 

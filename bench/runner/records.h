@@ -6,7 +6,7 @@
 #include <stddef.h>
 #include <stdint.h>
 
-enum { SHAPE_TAG = 1, ASK_TAG, GO_ON_TAG, GIVE_TAG, SWITCH_TAG, TICK_TAG, WHOLE_TAG };
+enum { SHAPE_TAG = 1, ASK_TAG = 2, GO_ON_TAG = 3, GIVE_TAG = 4, SWITCH_TAG = 5, TICK_TAG = 6, WHOLE_TAG = 7 };
 
 /* The most bytes of a script that is run. */
 enum { SCRIPT_MOST = 65536 };

@@ -2,17 +2,13 @@
 //! of all sizes come and go. So the tree is well divided, the lists are long and in no order, and at most times some calls are open.
 
 use crate::call::{Call, Reply};
+use crate::numbers::answer::{GRANTED, OPENED};
+use crate::numbers::stage::{CLOSED, WAITING};
+use crate::numbers::wait::NEVER;
 use crate::random::Random;
 use crate::shape::Shape;
 use crate::tables::{Tables, CELLS};
 use crate::wrong;
-
-/// The stages and the kind of wait that matter here, and the answers that change what a thread holds.
-const CLOSED: u64 = 0;
-const WAITING: u64 = 5;
-const NEVER: u64 = 0;
-const OPENED: usize = 40;
-const GRANTED: usize = 45;
 
 #[derive(Clone, Copy, Debug, PartialEq, Eq)]
 pub enum Phase {

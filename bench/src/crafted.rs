@@ -1,16 +1,9 @@
 //! Tables that break one line of validity alone: valid ones, changed in several cells at once so that all other lines hold.
 
+use crate::numbers::stage::{CLOSED, DIVIDING, RELEASING};
+use crate::numbers::state::*;
 use crate::shape::Shape;
 use crate::tables::{Tables, CELLS};
-
-/// The states and the stages that matter here.
-const ALLOCATED: u8 = 0;
-const FREE: u8 = 1;
-const DIVIDED: u8 = 2;
-const NOEXIST: u8 = 3;
-const FREEING: u8 = 4;
-const ALLOCATING: u8 = 5;
-const CLOSED: u64 = 0;
 
 /// A change of valid tables; answers whether there was something to change.
 pub type Change = fn(Shape, &mut Tables) -> Option<()>;
@@ -86,7 +79,7 @@ fn queued_twice(shape: Shape, t: &mut Tables) -> Option<()> {
 /// Two calls have the same block in hand.
 fn one_hand_for_two(shape: Shape, t: &mut Tables) -> Option<()> {
     let with = |stages: &[u64]| (0..shape.threads).find(|&thread| stages.contains(&t.stage(thread)));
-    let (from, to) = (with(&[3, 4])?, with(&[CLOSED])?);
+    let (from, to) = (with(&[DIVIDING, RELEASING])?, with(&[CLOSED])?);
     t.calls.copy_within(CELLS * from..CELLS * (from + 1), CELLS * to);
     Some(())
 }

@@ -1,6 +1,7 @@
 //! What is measured: each of the nine calls, and go on by the step that it makes.
 
 use crate::call::{Call, Reply};
+use crate::numbers::answer;
 
 #[derive(Clone, Copy, Debug, PartialEq, Eq)]
 pub enum Kind {
@@ -41,18 +42,18 @@ impl Kind {
     /// The kind of a call that made its step; none for a refusal, and for the answers "again" and "waiting".
     pub fn of(call: Call, reply: Reply) -> Option<Kind> {
         let kind = match (call, reply[0]) {
-            (Call::Build, 53) => Kind::Build,
-            (Call::Ask { .. }, 40) => Kind::Ask,
-            (Call::GoOn { .. }, 41) => Kind::Look,
-            (Call::GoOn { .. }, 43) => Kind::Take,
-            (Call::GoOn { .. }, 44) => Kind::Split,
-            (Call::GoOn { .. }, 45) => Kind::Grant,
-            (Call::GiveBack { .. }, 40) => Kind::GiveBack,
-            (Call::GoOn { .. }, 47) => Kind::Merge,
-            (Call::GoOn { .. }, 48) => Kind::Settle,
-            (Call::Switch { .. }, 49) => Kind::Switch,
-            (Call::Tick, 50) => Kind::Tick,
-            (Call::Whole, 51 | 52) => Kind::Whole,
+            (Call::Build, answer::BUILT) => Kind::Build,
+            (Call::Ask { .. }, answer::OPENED) => Kind::Ask,
+            (Call::GoOn { .. }, answer::FOUND) => Kind::Look,
+            (Call::GoOn { .. }, answer::TAKEN) => Kind::Take,
+            (Call::GoOn { .. }, answer::SPLIT) => Kind::Split,
+            (Call::GoOn { .. }, answer::GRANTED) => Kind::Grant,
+            (Call::GiveBack { .. }, answer::OPENED) => Kind::GiveBack,
+            (Call::GoOn { .. }, answer::MERGED) => Kind::Merge,
+            (Call::GoOn { .. }, answer::SETTLED) => Kind::Settle,
+            (Call::Switch { .. }, answer::SWITCHED) => Kind::Switch,
+            (Call::Tick, answer::TICKED) => Kind::Tick,
+            (Call::Whole, answer::WHOLE | answer::NOT_WHOLE) => Kind::Whole,
             (Call::Cover { .. }, 0) => Kind::Cover,
             (Call::Map, 0) => Kind::Map,
             _ => return None,

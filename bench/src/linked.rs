@@ -100,7 +100,6 @@ macro_rules! linked {
     };
 }
 
-#[cfg(feature = "archive")]
 linked!(
     Proved,
     "proved",

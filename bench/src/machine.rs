@@ -37,6 +37,9 @@ pub fn facts() -> [Fact; 6] {
         ("kernel", kernel()),
         ("Rattle", toolchain()),
         ("C", format!("{}, {}", env!("BENCH_C_COMPILER"), env!("BENCH_C_FLAGS"))),
-        ("Rust", format!("{}, --release, opt-level 3, one codegen unit, functions at multiples of 64 bytes", env!("BENCH_RUST_COMPILER"))),
+        (
+            "harness",
+            format!("{}, --release, opt-level 3, one codegen unit, functions at multiples of 64 bytes", env!("BENCH_RUST_COMPILER")),
+        ),
     ]
 }

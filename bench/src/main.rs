@@ -1,5 +1,4 @@
-//! How long the calls of Saltbalance take, beside the same calls in plain C and in safe Rust; and its script program beside a plain C
-//! runner.
+//! How long the calls of Saltbalance take, beside the same calls in plain C; and its script program beside a plain C runner.
 
 mod arguments;
 mod call;
@@ -11,8 +10,8 @@ mod kind;
 mod linked;
 mod machine;
 mod measure;
+mod numbers;
 mod patch;
-mod plain;
 mod program;
 mod quietest;
 mod random;
@@ -35,12 +34,7 @@ use std::{fs, io};
 
 /// The pools to compare, the proved one first.
 fn pools() -> Vec<Box<dyn Pool>> {
-    vec![
-        #[cfg(feature = "archive")]
-        Box::new(linked::Proved),
-        Box::new(linked::PlainC),
-        Box::new(plain::PlainRust),
-    ]
+    vec![Box::new(linked::Proved), Box::new(linked::PlainC)]
 }
 
 /// The calls at each shape: compared at all of them first, then measured in passes over all of them.

@@ -3,6 +3,7 @@
 use crate::call::{Call, Pool, Reply};
 use crate::churn::Churn;
 use crate::linked::PlainC;
+use crate::numbers::{answer, tag};
 use crate::shape::Shape;
 use crate::tables::Tables;
 
@@ -24,7 +25,7 @@ impl Script {
         let mut script = Script { name, shape, bytes: vec![], ends: vec![], tables: Tables::zeros(shape) };
         PlainC.make(Call::Build, shape, &mut script.tables);
         let numbers = [shape.pool, shape.threads, shape.levels, shape.tops].map(|number| number as u8);
-        script.put(1, &[numbers, four(shape.top_size)].concat());
+        script.put(tag::SHAPE, &[numbers, four(shape.top_size)].concat());
         script
     }
 
@@ -49,12 +50,12 @@ impl Script {
     fn step(&mut self, call: Call) -> Option<Reply> {
         let one = |thread: usize| vec![thread as u8];
         let (tag, value) = match call {
-            Call::Ask { thread, size, wait } => (2, [one(thread), four(size).to_vec(), wait.to_le_bytes().to_vec()].concat()),
-            Call::GoOn { thread } => (3, one(thread)),
-            Call::GiveBack { thread, id } => (4, [one(thread), four(id).to_vec()].concat()),
-            Call::Switch { thread } => (5, one(thread)),
-            Call::Tick => (6, vec![]),
-            Call::Whole => (7, vec![]),
+            Call::Ask { thread, size, wait } => (tag::ASK, [one(thread), four(size).to_vec(), wait.to_le_bytes().to_vec()].concat()),
+            Call::GoOn { thread } => (tag::GO_ON, one(thread)),
+            Call::GiveBack { thread, id } => (tag::GIVE, [one(thread), four(id).to_vec()].concat()),
+            Call::Switch { thread } => (tag::SWITCH, one(thread)),
+            Call::Tick => (tag::TICK, vec![]),
+            Call::Whole => (tag::WHOLE, vec![]),
             Call::Build | Call::Cover { .. } | Call::Map => return Some([0; 3]),
         };
         if self.bytes.len() + 3 + value.len() > MOST_BYTES {
@@ -78,9 +79,9 @@ impl Script {
     fn cycle(&mut self) -> Option<()> {
         let size = self.shape.size(self.shape.levels - 1);
         self.step(Call::Ask { thread: 0, size, wait: 0 })?;
-        let id = self.go_on_until(45)?;
+        let id = self.go_on_until(answer::GRANTED)?;
         self.step(Call::GiveBack { thread: 0, id })?;
-        self.go_on_until(48)?;
+        self.go_on_until(answer::SETTLED)?;
         Some(())
     }
 }

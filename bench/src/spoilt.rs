@@ -3,6 +3,7 @@
 use crate::call::Pool;
 use crate::crafted::CHANGES;
 use crate::kind::Kind;
+use crate::numbers::refusal::NOT_VALID;
 use crate::random::Random;
 use crate::shape::Shape;
 use crate::starts::{Start, Starts};
@@ -72,7 +73,7 @@ impl Spoilt {
     fn make(&mut self, shape: Shape, pools: &[Box<dyn Pool>], start: &Start, tables: &Tables) {
         let answer = Together::new(shape, pools, tables).make(start.call)[0];
         self.calls += 1;
-        self.refused += usize::from(answer == 3);
+        self.refused += usize::from(answer == NOT_VALID);
     }
 
     /// Makes the call of a start on tables into which something was written, mostly with the right shape.

@@ -138,7 +138,7 @@ static void damaged_contents(void) {
 
 /* Whether an answer is a refusal that alters nothing. */
 static int alters_nothing(size_t answered) {
-    return answered < SALTBALANCE_OPENED && answered != 0 && answered != SALTBALANCE_NO_ROOM && answered != SALTBALANCE_TIMED_OUT;
+    return saltbalance_is_refusal(answered) && answered != SALTBALANCE_NO_ROOM && answered != SALTBALANCE_TIMED_OUT;
 }
 
 /* Any bytes at all in tables of the right lengths: each call ends, and a refusal alters nothing. */

@@ -7,19 +7,18 @@ use crate::starts::KEPT;
 use crate::words::whole;
 use crate::Rounds;
 
-/// What the three are.
+/// What the two are.
 const COMPARED: &str = "\
-The nine calls of include/saltbalance.h, three times, on the same tables:
+The nine calls of include/saltbalance.h, twice, on the same tables:
 
 - **proved**: the archive that `rt staticlib saltbalance_c` writes;
-- **C**: bench/plain.c and what stands in bench/plain;
-- **Rust**: safe Rust in bench/src/plain.
+- **C**: bench/plain.c and what stands in bench/plain.
 
-C and Rust make the same check of all tables in front of each call but build, and then the same step: what is decided is the same, and how \
-is what was found quickest in each language. Passes have no branches, so that the compiler turns them into vector code, quarters are read \
-four at a time as words, and marks stand in one flat array. All three are compiled for any x86-64 processor. In all three functions begin at \
-multiples of 64 bytes, so that no figure hangs on where the linker puts a loop: the archive is linked from a copy in which only that \
-differs. Go on is measured by the step that it makes.
+C makes the same check of all tables in front of each call but build, and then the same step: what is decided is the same, and how is what \
+was found quickest. Passes have no branches, so that the compiler turns them into vector code, quarters are read four at a time as words, and \
+marks stand in one flat array. Both are compiled for any x86-64 processor. In both functions begin at multiples of 64 bytes, so that no figure \
+hangs on where the linker puts a loop: the archive is linked from a copy in which only that differs. Go on is measured by the step that it \
+makes.
 ";
 
 /// How many calls were compared, and that all were alike.
@@ -45,8 +44,8 @@ fn figures(rounds: usize) -> String {
          **Figures.** A sample is the same call on each of some copies of the tables, timed as a whole: as many copies as fill {} bytes, at \
          least one and at most {MOST_COPIES}. What the call changed is put back after each sample, outside the timed part. In each of {} rounds \
          all have their turn, and so has a call that does nothing. A time is the median of the rounds less that of the call that does \
-         nothing. {PASSES} such passes are made over all shapes and calls, and the quietest counts: that in which the times of all three together \
-         are least. A figure is the mean of the times from its states.\n",
+         nothing. {PASSES} such passes are made over all shapes and calls, and the quietest counts: that in which all times together are least. A \
+         figure is the mean of the times from its states.\n",
         whole(SAMPLE_BYTES),
         whole(rounds)
     )

@@ -17,13 +17,12 @@ fn machine() -> String {
     format!("## Machine\n\n{}", markdown::list(&["what", "which"], &rows))
 }
 
-/// The whole document. Without the proved calls there are no goals.
+/// The whole document.
 pub fn document(names: &[&str], all: &[Figures], scripts: Option<&[Timed]>, rounds: Rounds) -> String {
-    let proved = names.len() == 3;
     let parts = [
         "# Benchmarks\n\nEvery figure here was measured by bench/run. `bench/run --write` measures again and writes this page.\n\n"
             .to_string(),
-        if proved { goals::goals(all, scripts) } else { String::new() },
+        goals::goals(all, scripts),
         machine(),
         method::method(all, rounds),
         calls::shapes(names, all),

@@ -58,29 +58,6 @@ pub enum Refusal {
     RowTooShort = 19,
 }
 
-/// All refusals, by number.
-const ALL: [Refusal; 19] = [
-    Refusal::ShapeNotAllowed,
-    Refusal::WrongLength,
-    Refusal::NotValid,
-    Refusal::NoThread,
-    Refusal::NotRunning,
-    Refusal::IsBlocked,
-    Refusal::CallOpen,
-    Refusal::NoCall,
-    Refusal::SizeAboveTop,
-    Refusal::WaitOutside,
-    Refusal::IdOutside,
-    Refusal::NotAllocated,
-    Refusal::NotOwner,
-    Refusal::NoRoom,
-    Refusal::TimedOut,
-    Refusal::ClockAtEnd,
-    Refusal::BadRecord,
-    Refusal::OffsetOutside,
-    Refusal::RowTooShort,
-];
-
 impl Refusal {
     /// The paper's number of this refusal.
     #[must_use]
@@ -91,7 +68,28 @@ impl Refusal {
     /// The refusal with this number, if there is one.
     #[must_use]
     pub fn from_number(number: usize) -> Option<Refusal> {
-        ALL.get(number.checked_sub(1)?).copied()
+        Some(match number {
+            1 => Refusal::ShapeNotAllowed,
+            2 => Refusal::WrongLength,
+            3 => Refusal::NotValid,
+            4 => Refusal::NoThread,
+            5 => Refusal::NotRunning,
+            6 => Refusal::IsBlocked,
+            7 => Refusal::CallOpen,
+            8 => Refusal::NoCall,
+            9 => Refusal::SizeAboveTop,
+            10 => Refusal::WaitOutside,
+            11 => Refusal::IdOutside,
+            12 => Refusal::NotAllocated,
+            13 => Refusal::NotOwner,
+            14 => Refusal::NoRoom,
+            15 => Refusal::TimedOut,
+            16 => Refusal::ClockAtEnd,
+            17 => Refusal::BadRecord,
+            18 => Refusal::OffsetOutside,
+            19 => Refusal::RowTooShort,
+            _ => return None,
+        })
     }
 
     /// The paper's words for this refusal.

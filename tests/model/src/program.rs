@@ -3,32 +3,34 @@
 use crate::counts::{Tally, Tried};
 use crate::generate::scripts::{Ends, Kind, KINDS};
 use crate::random::Random;
-use crate::script::listing;
+use crate::script::*;
 use crate::settings::Settings;
 use std::io::{Read, Write};
 use std::process::{Command, Stdio};
 use std::thread;
 
-/// The answers that each tag from 1 to 7 can have, the line in front standing for all other tags. Each
-/// must occur. The clock's end is out of a script's reach.
-const MUST_OCCUR: [&[usize]; 8] = [
-    &[17],
-    &[1, 17, 53],
-    &[4, 5, 7, 9, 10, 17, 40],
-    &[4, 5, 8, 14, 15, 17, 41, 42, 43, 44, 45, 46, 47, 48],
-    &[4, 5, 7, 11, 12, 13, 17, 40],
-    &[4, 6, 17, 49],
-    &[17, 50],
-    &[17, 51, 52],
+/// Each tag, its name and the answers that it can have, the last line standing for all other tags. Each
+/// answer must occur. The clock's end is out of a script's reach.
+const TAGS: &[(Option<u8>, &str, &[usize])] = &[
+    (Some(SHAPE_TAG), "1 shape", &[1, 17, 53]),
+    (Some(ASK_TAG), "2 ask", &[4, 5, 7, 9, 10, 17, 40]),
+    (Some(GO_ON_TAG), "3 go on", &[4, 5, 8, 14, 15, 17, 41, 42, 43, 44, 45, 46, 47, 48]),
+    (Some(GIVE_TAG), "4 give", &[4, 5, 7, 11, 12, 13, 17, 40]),
+    (Some(SWITCH_TAG), "5 switch", &[4, 6, 17, 49]),
+    (Some(TICK_TAG), "6 tick", &[17, 50]),
+    (Some(WHOLE_TAG), "7 whole", &[17, 51, 52]),
+    (None, "other tags", &[17]),
 ];
 
-/// What stands for each place of `MUST_OCCUR` in the report.
-const TAGS: [&str; 8] =
-    ["other tags", "1 shape", "2 ask", "3 go on", "4 give", "5 switch", "6 tick", "7 whole"];
+/// The place in `TAGS` of a tag as it is listed.
+fn place_of(listed: usize) -> usize {
+    let own = TAGS.iter().position(|&(tag, ..)| tag.map(usize::from) == Some(listed));
+    own.unwrap_or(TAGS.len() - 1)
+}
 
 /// Makes the runs and prints what was tried; an error says where the listings differ or what was missed.
 pub fn run(settings: Settings, program: &str) -> Result<(), String> {
-    let mut answers: Vec<Tally<usize>> = MUST_OCCUR.iter().map(|answers| Tally::of(answers)).collect();
+    let mut answers: Vec<Tally<usize>> = TAGS.iter().map(|(_, _, answers)| Tally::of(answers)).collect();
     let mut tried = vec![Tried::default(); KINDS.len()];
     for run in settings.numbers() {
         let which = (run % KINDS.len() as u64) as usize;
@@ -110,9 +112,8 @@ fn note(answers: &mut [Tally<usize>], listing: &[u8]) -> Option<usize> {
     let mut last = 0;
     for line in text.lines().skip(1) {
         let numbers: Vec<usize> = line.split(' ').map(|number| number.parse().unwrap()).collect();
-        let tag = if numbers[1] > 7 { 0 } else { numbers[1] };
         last = numbers[2];
-        answers[tag].note(last);
+        answers[place_of(numbers[1])].note(last);
     }
     [1, 17].contains(&last).then_some(last)
 }
@@ -135,7 +136,7 @@ fn check_end(kind: &Kind, ends_bad: Option<usize>) -> Result<(), String> {
 /// What was tried.
 fn report(answers: &[Tally<usize>], tried: &[Tried]) -> String {
     let mut text = String::from("answers by tag (number×times)\n");
-    for (name, answers) in TAGS.iter().zip(answers) {
+    for ((_, name, _), answers) in TAGS.iter().zip(answers) {
         text.push_str(&format!("  {name:<10} {}\n", answers.in_one_line()));
     }
     text.push_str("scripts: times tried, times without a bad record, kind\n");
@@ -150,7 +151,7 @@ fn report(answers: &[Tally<usize>], tried: &[Tried]) -> String {
 /// An error if something that must occur never did.
 fn missed(answers: &[Tally<usize>], tried: &[Tried]) -> Result<(), String> {
     let mut missed = Vec::new();
-    for (name, answers) in TAGS.iter().zip(answers) {
+    for ((_, name, _), answers) in TAGS.iter().zip(answers) {
         missed.extend(answers.never().iter().map(|answer| format!("{name} never had answer {answer}")));
     }
     let untried = KINDS.iter().zip(tried).filter(|(_, tried)| tried.times == 0);

@@ -5,6 +5,15 @@ use crate::rules::lent::{Lent, Record, Tables};
 use crate::rules::shape::Shape;
 use crate::rules::{calls, go_on, questions};
 
+/// The tags of records.
+pub const SHAPE_TAG: u8 = 1;
+pub const ASK_TAG: u8 = 2;
+pub const GO_ON_TAG: u8 = 3;
+pub const GIVE_TAG: u8 = 4;
+pub const SWITCH_TAG: u8 = 5;
+pub const TICK_TAG: u8 = 6;
+pub const WHOLE_TAG: u8 = 7;
+
 /// The most bytes that a script may have.
 pub const MOST_BYTES: usize = 65_536;
 
@@ -66,24 +75,24 @@ fn read(bytes: &[u8], first: bool) -> Option<(Command, usize)> {
     let tag = bytes[0];
     let length = usize::from(u16::from_le_bytes([*bytes.get(1)?, *bytes.get(2)?]));
     let value = bytes.get(3..3 + length)?;
-    if (tag == 1) != first {
+    if (tag == SHAPE_TAG) != first {
         return None;
     }
     let command = match (tag, length) {
-        (1, 8) => Command::Shape(Shape {
+        (SHAPE_TAG, 8) => Command::Shape(Shape {
             pool: value[0].into(),
             threads: value[1].into(),
             levels: value[2].into(),
             tops: value[3].into(),
             top_size: four(&value[4..]) as usize,
         }),
-        (2, 9) => ask(value, four(&value[5..]) as i32),
-        (2, 5) => ask(value, -1),
-        (3, 1) => Command::GoOn { thread: value[0].into() },
-        (4, 5) => Command::Give { thread: value[0].into(), id: four(&value[1..]) as usize },
-        (5, 1) => Command::Switch { thread: value[0].into() },
-        (6, 0) => Command::Tick,
-        (7, 0) => Command::Whole,
+        (ASK_TAG, 9) => ask(value, four(&value[5..]) as i32),
+        (ASK_TAG, 5) => ask(value, -1),
+        (GO_ON_TAG, 1) => Command::GoOn { thread: value[0].into() },
+        (GIVE_TAG, 5) => Command::Give { thread: value[0].into(), id: four(&value[1..]) as usize },
+        (SWITCH_TAG, 1) => Command::Switch { thread: value[0].into() },
+        (TICK_TAG, 0) => Command::Tick,
+        (WHOLE_TAG, 0) => Command::Whole,
         _ => return None,
     };
     Some((command, 3 + length))

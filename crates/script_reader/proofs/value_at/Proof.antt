@@ -30,7 +30,7 @@ value-requires c κs = omega (arith, within (c .before .before), c .number-at .e
 returns : tie.Need-returns
 returns c =
     let n : ℕ = c .before .number-at .result in
-    let e : c .before .before .before .args .at + 3 + n - (c .before .before .before .args .at + 3) ≡ n = omega arith in
+    let e : (x : ℕ) → x + n - x ≡ n = λ x. omega arith in
     rw (c .value .ensures, e, c .before .number-at .ensures .0)
 
 pub value-at-spec : {M : Type 1} → statement M

@@ -70,7 +70,7 @@ fn unused(cells: &Cells) -> &'static [usize] {
 fn unused_field(random: &mut Random, lent: &mut Lent) -> bool {
     let thread = random.below(lent.shape.threads);
     let field = random.pick(unused(&lent.cells(thread)));
-    lent.tables.calls[6 * thread + field] = random.pick(&[1, 2, 256, 65_536, 1 << 32, u64::MAX]);
+    lent.tables.calls[CELLS * thread + field] = random.pick(&[1, 2, 256, 65_536, 1 << 32, u64::MAX]);
     true
 }
 
@@ -78,7 +78,7 @@ fn stage_above(random: &mut Random, lent: &mut Lent) -> bool {
     let thread = random.below(lent.shape.threads);
     let stage = lent.cells(thread).stage;
     let above = [6, 7, 8 + stage, 256 + stage, 65_536 + stage, (1 << 32) + stage, u64::MAX];
-    lent.tables.calls[6 * thread] = random.pick(&above);
+    lent.tables.calls[CELLS * thread] = random.pick(&above);
     true
 }
 
@@ -267,7 +267,7 @@ fn cell_and_power(random: &mut Random, lent: &mut Lent) -> bool {
 
 fn any_cells(random: &mut Random, lent: &mut Lent) -> bool {
     let thread = random.below(lent.shape.threads);
-    for place in 6 * thread..6 * thread + 6 {
+    for place in CELLS * thread..CELLS * (thread + 1) {
         let any = random.number();
         lent.tables.calls[place] = random.pick(&[any % 6, any % 3, 0, any % 100_000, any]);
     }

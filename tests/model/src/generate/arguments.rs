@@ -5,7 +5,7 @@
 use super::shapes::wild;
 use crate::entry::Entry;
 use crate::random::Random;
-use crate::rules::lent::{Lent, ALLOCATED, DIVIDING, RELEASING};
+use crate::rules::lent::{Lent, ALLOCATED, CELLS, DIVIDED, DIVIDING, NOEXIST, RELEASING};
 
 /// A call of the entry point with this place in `KINDS`.
 pub fn call(random: &mut Random, lent: &Lent, kind: usize) -> Entry {
@@ -114,7 +114,7 @@ fn in_hand(random: &mut Random, lent: &Lent) -> Option<usize> {
     let hands: Vec<usize> = lent
         .tables
         .calls
-        .chunks_exact(6)
+        .chunks_exact(CELLS)
         .filter(|cells| [DIVIDING, RELEASING].contains(&cells[0]) && cells[4] < 16 && cells[5] < 1 << 20)
         .map(|cells| lent.shape.pool % 256 + 256 * cells[4] as usize + 4096 * cells[5] as usize)
         .collect();
@@ -158,7 +158,7 @@ fn offset(random: &mut Random, lent: &Lent) -> usize {
 
 /// A row about as long as the map, holding anything.
 fn row(random: &mut Random, lent: &Lent) -> Vec<u32> {
-    let undivided = lent.tables.states.iter().filter(|&&state| state != 2 && state != 3).count();
+    let undivided = lent.tables.states.iter().filter(|&&state| state != DIVIDED && state != NOEXIST).count();
     let length = match random.below(8) {
         0 => 0,
         1 => undivided.saturating_sub(1),

@@ -7,6 +7,17 @@ use crate::random::Random;
 use crate::rules::answers::OPENED;
 use crate::rules::lent::{Lent, Record, Tables};
 use crate::rules::shape::Shape;
+use crate::script::{ASK_TAG, GIVE_TAG, GO_ON_TAG, SHAPE_TAG, SWITCH_TAG, TICK_TAG, WHOLE_TAG};
+
+/// The tags of the records behind the shape, each with the lengths that its value may have.
+pub const STEPS: &[(u8, &[usize])] = &[
+    (ASK_TAG, &[5, 9]),
+    (GO_ON_TAG, &[1]),
+    (GIVE_TAG, &[5]),
+    (SWITCH_TAG, &[1]),
+    (TICK_TAG, &[0]),
+    (WHOLE_TAG, &[0]),
+];
 
 /// A record: a one-byte tag, a two-byte length, the value.
 pub fn record(tag: u8, value: &[u8]) -> Vec<u8> {
@@ -18,7 +29,7 @@ pub fn record(tag: u8, value: &[u8]) -> Vec<u8> {
 pub fn shape_record(shape: &Shape) -> Vec<u8> {
     let mut value = vec![shape.pool as u8, shape.threads as u8, shape.levels as u8, shape.tops as u8];
     value.extend((shape.top_size as u32).to_le_bytes());
-    record(1, &value)
+    record(SHAPE_TAG, &value)
 }
 
 /// The same call with numbers that fit a record, if a record can ask for it.
@@ -45,17 +56,17 @@ fn bytes(random: &mut Random, entry: &Entry) -> Vec<u8> {
             if wait != -1 || random.percent(50) {
                 value.extend(wait.to_le_bytes());
             }
-            record(2, &value)
+            record(ASK_TAG, &value)
         }
-        Entry::GoOn { thread } => record(3, &[thread as u8]),
+        Entry::GoOn { thread } => record(GO_ON_TAG, &[thread as u8]),
         Entry::GiveBack { thread, id } => {
             let mut value = vec![thread as u8];
             value.extend((id as u32).to_le_bytes());
-            record(4, &value)
+            record(GIVE_TAG, &value)
         }
-        Entry::Switch { thread } => record(5, &[thread as u8]),
-        Entry::Tick => record(6, &[]),
-        _ => record(7, &[]),
+        Entry::Switch { thread } => record(SWITCH_TAG, &[thread as u8]),
+        Entry::Tick => record(TICK_TAG, &[]),
+        _ => record(WHOLE_TAG, &[]),
     }
 }
 

@@ -1,9 +1,9 @@
 //! Scripts, good and damaged, each of a named kind.
 
-use super::records::{good, record, shape_record};
+use super::records::{good, record, shape_record, STEPS};
 use super::shapes;
 use crate::random::Random;
-use crate::script::MOST_BYTES;
+use crate::script::*;
 
 /// How the listing of a script ends.
 #[derive(Clone, Copy, Debug, PartialEq, Eq)]
@@ -79,10 +79,10 @@ fn just(random: &mut Random, bytes: usize) -> Vec<u8> {
     let mut script = good(random, bytes - 40);
     // Records of three and of four bytes add up to any length from six on.
     while !(bytes - script.len()).is_multiple_of(3) {
-        script.extend(record(5, &[random.below(3) as u8]));
+        script.extend(record(SWITCH_TAG, &[random.below(3) as u8]));
     }
     while script.len() < bytes {
-        script.extend(record(random.pick(&[6, 7]), &[]));
+        script.extend(record(random.pick(&[TICK_TAG, WHOLE_TAG]), &[]));
     }
     script
 }
@@ -97,7 +97,7 @@ fn last_cut(random: &mut Random) -> Vec<u8> {
 fn far_more(random: &mut Random) -> Vec<u8> {
     let length = random.pick(&[65_538, 70_000, 131_072, 300_000]);
     let mut script = short(random);
-    script.resize(length, random.pick(&[0, 6]));
+    script.resize(length, random.pick(&[0, TICK_TAG]));
     script
 }
 
@@ -106,27 +106,23 @@ fn behind(random: &mut Random, bytes: &[u8]) -> Vec<u8> {
     let mut script = short(random);
     script.extend_from_slice(bytes);
     if random.percent(70) {
-        script.extend(record(7, &[]));
+        script.extend(record(WHOLE_TAG, &[]));
     }
     script
 }
 
 fn other_tag(random: &mut Random) -> Vec<u8> {
-    let far = random.between(8, 255) as u8;
-    let tag = random.pick(&[0, 8, 9, 127, 128, 254, 255, far]);
+    let known = |tag: u8| tag == SHAPE_TAG || STEPS.iter().any(|&(step, _)| step == tag);
+    let others: Vec<u8> = (0..=255).filter(|&tag| !known(tag)).collect();
+    let far = random.pick(&others);
+    let tag = random.pick(&[others[0], others[1], others[2], 127, 128, 254, 255, far]);
     let length = random.pick(&[0, 1, 5, 8, 9]);
     let value = any_bytes(random, length);
     behind(random, &record(tag, &value))
 }
 
 fn other_length(random: &mut Random) -> Vec<u8> {
-    let tag = random.between(2, 7) as u8;
-    let right: &[usize] = match tag {
-        2 => &[5, 9],
-        3 | 5 => &[1],
-        4 => &[5],
-        _ => &[0],
-    };
+    let (tag, right) = random.pick(STEPS);
     let near = random.pick(right);
     let wrong = [0, 1, 4, 5, 6, 7, 8, 9, 10, near + 1, near + 256, 300];
     let length = random.pick(&wrong);
@@ -140,18 +136,18 @@ fn other_shape_length(random: &mut Random) -> Vec<u8> {
     let length = random.pick(&[0, 1, 4, 7, 9, 10, 264]);
     shape.resize(3 + length, 0);
     shape[1..3].copy_from_slice(&(length as u16).to_le_bytes());
-    shape.extend(record(6, &[]));
+    shape.extend(record(TICK_TAG, &[]));
     shape
 }
 
 /// A good run and only the first bytes of one more record that has at least as many.
 fn cut(random: &mut Random, bytes: usize) -> Vec<u8> {
-    let records = [record(2, &[0; 9]), record(2, &[0; 5]), record(4, &[0; 5])];
+    let records = [record(ASK_TAG, &[0; 9]), record(ASK_TAG, &[0; 5]), record(GIVE_TAG, &[0; 5])];
     let mut cut = random.pick(&[&records[0], &records[1], &records[2]]).clone();
     if bytes < 4 && random.percent(50) {
-        cut = record(random.pick(&[3, 5]), &[0]);
+        cut = record(random.pick(&[GO_ON_TAG, SWITCH_TAG]), &[0]);
     } else if bytes < 3 && random.percent(50) {
-        cut = record(random.pick(&[6, 7]), &[]);
+        cut = record(random.pick(&[TICK_TAG, WHOLE_TAG]), &[]);
     }
     let kept = if bytes < 4 { bytes } else { random.between(4, cut.len() - 1) };
     cut.truncate(kept);
@@ -171,20 +167,18 @@ fn far_length(random: &mut Random) -> Vec<u8> {
 
 fn shape_later(random: &mut Random) -> Vec<u8> {
     let shape = shape_record(&shapes::allowed(random));
-    let other = record(1, &[]);
+    let other = record(SHAPE_TAG, &[]);
     let later = if random.percent(80) { shape } else { other };
     behind(random, &later)
 }
 
 fn other_tag_first(random: &mut Random) -> Vec<u8> {
     let one = random.between(0, 255) as u8;
-    let firsts = [record(2, &[0; 9]), record(2, &[0; 5]), record(3, &[0]), record(4, &[0; 5])];
-    let mut script = match random.below(8) {
-        place @ 0..=3 => firsts[place].clone(),
-        4 => record(5, &[0]),
-        5 => record(6, &[]),
-        6 => record(7, &[]),
-        _ => record(if one == 1 { 0 } else { one }, &[1, 2, 2, 1, 64, 0, 0, 0]),
+    let mut script = if random.once_in(8) {
+        record(if one == SHAPE_TAG { 0 } else { one }, &[1, 2, 2, 1, 64, 0, 0, 0])
+    } else {
+        let (tag, lengths) = random.pick(STEPS);
+        record(tag, &vec![0; random.pick(lengths)])
     };
     script.extend(short(random));
     script
@@ -243,7 +237,8 @@ fn arbitrary(random: &mut Random) -> Vec<u8> {
 fn arbitrary_values(random: &mut Random) -> Vec<u8> {
     let mut script = short(random);
     for _ in 0..random.between(1, 30) {
-        let (tag, length) = random.pick(&[(2, 9), (2, 5), (3, 1), (4, 5), (5, 1), (6, 0), (7, 0)]);
+        let (tag, lengths) = random.pick(STEPS);
+        let length = random.pick(lengths);
         let mut value = any_bytes(random, length);
         if length > 0 && random.percent(80) {
             value[0] %= 4;

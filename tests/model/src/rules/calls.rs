@@ -13,7 +13,7 @@ pub fn ticks(milliseconds: u32) -> u64 {
 pub fn check_runner(lent: &Lent, thread: usize) -> Result<(), Refusal> {
     check_tables(lent)?;
     if thread >= lent.shape.threads {
-        return Err(NO_SUCH_THREAD);
+        return Err(NO_THREAD);
     }
     if lent.record.running as usize != thread + 1 {
         return Err(NOT_RUNNING);
@@ -67,7 +67,7 @@ pub fn give_back(lent: &mut Lent, thread: usize, id: usize) -> Outcome {
         return Err(NOT_ALLOCATED);
     }
     if lent.owner(level, block) as usize != thread + 1 {
-        return Err(ANOTHERS_BLOCK);
+        return Err(NOT_OWNER);
     }
     lent.set_state(level, block, FREEING);
     lent.set_owner(level, block, 0);
@@ -80,10 +80,10 @@ pub fn give_back(lent: &mut Lent, thread: usize, id: usize) -> Outcome {
 pub fn switch(lent: &mut Lent, thread: usize) -> Outcome {
     check_tables(lent)?;
     if thread >= lent.shape.threads {
-        return Err(NO_SUCH_THREAD);
+        return Err(NO_THREAD);
     }
     if lent.cells(thread).stage == WAITING {
-        return Err(THREAD_BLOCKED);
+        return Err(IS_BLOCKED);
     }
     lent.record.running = thread as u32 + 1;
     plain(SWITCHED)

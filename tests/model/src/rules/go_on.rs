@@ -8,7 +8,7 @@ use super::lent::*;
 pub fn go_on(lent: &mut Lent, thread: usize) -> Outcome {
     check_runner(lent, thread)?;
     match lent.cells(thread).stage {
-        CLOSED => Err(NO_CALL_OPEN),
+        CLOSED => Err(NO_CALL),
         ASKED => look(lent, thread),
         FOUND => take(lent, thread),
         DIVIDING => divide(lent, thread),

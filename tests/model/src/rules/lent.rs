@@ -23,6 +23,9 @@ pub const NEVER: u64 = 0;
 pub const FOREVER: u64 = 1;
 pub const TIMED: u64 = 2;
 
+/// How many cells a thread has in the table of calls.
+pub const CELLS: usize = 6;
+
 /// The clock, and who runs: 0 for nobody, t + 1 for thread t.
 #[derive(Clone, Copy, Debug, PartialEq, Eq)]
 pub struct Record {
@@ -73,7 +76,7 @@ impl Tables {
             states: vec![0; shape.blocks()],
             owners: vec![0; shape.blocks()],
             lists: vec![0; shape.levels + shape.blocks()],
-            calls: vec![0; 6 * shape.threads],
+            calls: vec![0; CELLS * shape.threads],
             queue: vec![0; shape.threads + 1],
         }
     }
@@ -86,7 +89,7 @@ impl Lent {
         tables.states.len() == shape.blocks()
             && tables.owners.len() == shape.blocks()
             && tables.lists.len() == shape.levels + shape.blocks()
-            && tables.calls.len() == 6 * shape.threads
+            && tables.calls.len() == CELLS * shape.threads
             && tables.queue.len() == shape.threads + 1
     }
 }
@@ -166,7 +169,7 @@ impl Lent {
 
     /// A thread's six cells.
     pub fn cells(&self, thread: usize) -> Cells {
-        let cells = &self.tables.calls[6 * thread..6 * thread + 6];
+        let cells = &self.tables.calls[CELLS * thread..][..CELLS];
         Cells {
             stage: cells[0],
             size: cells[1],
@@ -179,7 +182,7 @@ impl Lent {
 
     pub fn set_cells(&mut self, thread: usize, cells: Cells) {
         let six = [cells.stage, cells.size, cells.kind, cells.deadline, cells.level, cells.block];
-        self.tables.calls[6 * thread..6 * thread + 6].copy_from_slice(&six);
+        self.tables.calls[CELLS * thread..][..CELLS].copy_from_slice(&six);
     }
 
     /// The cells of all threads, in the threads' order.

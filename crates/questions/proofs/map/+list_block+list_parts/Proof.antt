@@ -2,9 +2,11 @@
 -- level, so parts' measure lies between: twice the depth for a block, and one more for parts. Each run of ids stands behind those before it.
 -- Assumes nothing.
 use mathlib.Core.Path.{_≡_, _∙_, ap}
+use mathlib.Core.Bool.{true, _&&_}
 use Prim.Native.Nat.{ℕ, _+_, _*_, _-_, _≤_, _<_}
 use native.Mathlib.Omega.{arith}
-use lib.ListN.{length}
+use lib.Dec.{ltb, eqb}
+use lib.ListN.{length, getD}
 use lib.Seq.{length-sets}
 use borrow.Author.Needs.{needs}
 use borrow.Fn.Kinds.{In}
@@ -12,6 +14,7 @@ use borrow.Fn.PlainCycle.{Measures, is, falls, and}
 use Rattle.shape.specs.Limits.{parts}
 use Rattle.shape.proofs.Shape.id.Reads as id-reads
 use Rattle.shape.proofs.Shape.place.Reads as place-reads
+use Rattle.rules.specs.Numbers.{DIVIDED}
 use Rattle.rules.specs.Questions.{listed, mapBlock}
 use Rattle.questions.specs.Listing.{levelAbove, Listed}
 use Rattle.questions.proofs.Listings.{deep, none, single, single-out, behind, listed-more, divided, undivided, most, id-most, parts-listable, part-listable}
@@ -90,12 +93,10 @@ module _ (t : ℕ) where
   block-returns : list-block-lts.Need-returns (block-claims t) (list-block-at t) list-block.Post
   unfolding parts
   block-returns c =
-      rw
-      (divided _ _ _ _ _
-      (c .before .before .before .before .before .before .before .before .before .before .pre .1 .depth)
-      (c .before .before .before .before .before .before .place .ensures .0)
-      (c .before .before .before .before .if1 .taken))
-      (c .before .before .list-parts .ensures)
+      let given = c .before .before .before .before .before .before .before .before .before .before in
+      let place = c .before .before .before .before .before .before .place in
+      let is-divided : (ltb 0 (given .args .depth) && eqb (getD (given .args .states .now) (place .result) 0) DIVIDED) ≡ true = c .before .before .before .before .if1 .taken in
+      rw (divided _ _ _ _ _ (given .pre .1 .depth) (place .ensures .0) is-divided) (c .before .before .list-parts .ensures)
 
   block-add-next : list-block-lts.Need-add-next (block-claims t) (list-block-at t) list-block.Post
   block-add-next c = omega (arith, most (c .before .before .before .before .before .before .pre .1))
