@@ -1,6 +1,7 @@
 // What is said of one call by itself.
 use rules::Call;
 use shape::Shape;
+use shape::time::Millis;
 ghost use mathlib.Core.Path.{_≡_};
 ghost use mathlib.Core.Bool.{true, not, _||_};
 ghost use Prim.Native.Nat.{_<_, _^_};
@@ -8,9 +9,6 @@ ghost use lib.Dec.{leb, eqb};
 ghost use Rattle.shape.specs.Limits.{allowed};
 ghost use Rattle.shape.specs.Blocks.{levelFor};
 ghost use Rattle.rules.specs.Valid.{usesWait, usesBlock, fieldsUsed, handInside, deadlineKept, mayWait, callKept};
-
-// The longest wait in ticks.
-const LONGEST: usize = 60000;
 
 // Whether a call's stage uses the kind of wait.
 fn uses_wait(c: Call) -> bool
@@ -73,7 +71,8 @@ fn deadline_kept(clock: usize, c: Call) -> bool
     ensures { λ r. ⌜ r ≡ deadlineKept clock c ⌝ }
 {
     !(uses_wait(c) & (c.wait == rules::TIMED))
-        | ((c.deadline <= clock + LONGEST) & ((c.stage != rules::WAITING) | (clock < c.deadline)))
+        | ((c.deadline <= clock + Millis::longest_in_ticks())
+            & ((c.stage != rules::WAITING) | (clock < c.deadline)))
 }
 
 // Whether a call that waits may wait.

@@ -103,8 +103,8 @@ pub record Room (s : Shape) (states lists : List ℕ) (level from n : ℕ) : Typ
   pub inside : level < s .levels
   pub some : n ≤ mostCount
   pub fits : from + n ≤ blocks s
-  pub most : blocks s ≤ 5456
-  pub levels : s .levels ≤ 5
+  pub most : blocks s ≤ mostBlocks
+  pub levels : s .levels ≤ mostLevels
   pub states-long : length states ≡ blocks s
   pub lists-long : length lists ≡ s .levels + blocks s
 

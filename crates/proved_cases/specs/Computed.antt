@@ -21,7 +21,7 @@ use Rattle.history.specs.History.{Step, stepOn, runSteps}
 
 -- where this unfolds every rule does, so that what stands beside it computes
 unfoldable pub everyRule : Bool
-unfolding every tally pad times keep upFrom parts unit allowed size count levelFrom levelFor above blocks longest ticks wait lengths freeList putList queueOf putQueue callOf putCall fresh statesKnown listEnds queueEnds fieldsUsed topsExist partsExist deepestWhole buddiesMerged freeListed ownersKnown handInside oneToOne targetKept waitersQueued runningReady sizeKept foundKept deadlineKept mayWait callKept callsKept poolValid threadsValid handsValid valid deepest noRoom lookAt look takeFrom takeStep splitStep grantStep divideStep merges mergeStep wake settleStep releaseStep goOnStep build askedCall fitting verdict running askStep ask goOn idOutside heldBy giveStep give switchStep switch due tickStep tick isWhole whole stepOn runSteps
+unfolding every tally pad times keep upFrom parts unit allowed size count levelFrom levelFor above blocks ticks wait lengths freeList putList queueOf putQueue callOf putCall fresh statesKnown listEnds queueEnds fieldsUsed topsExist partsExist deepestWhole buddiesMerged freeListed ownersKnown handInside oneToOne targetKept waitersQueued runningReady sizeKept foundKept deadlineKept mayWait callKept callsKept poolValid threadsValid handsValid valid deepest noRoom lookAt look takeFrom takeStep splitStep grantStep divideStep merges mergeStep wake settleStep releaseStep goOnStep build askedCall fitting verdict running askStep ask goOn idOutside heldBy giveStep give switchStep switch due tickStep tick isWhole whole stepOn runSteps
 everyRule = true
 
 -- fresh tables after a history

@@ -102,7 +102,7 @@ undivided s states (suc depth) l b p q e = rw (rw (lt-ltb 0 (suc depth) (omega a
 -- the numbers of blocks that can be listed, the places of their ids, and a block's id
 pub most :
     {s : Shape} {states : List ℕ} {at depth b n : ℕ} → Listable s states at depth b n →
-    (b + n ≤ 4096) × (at + n * parts s ^ depth ≤ 4096)
+    (b + n ≤ mostCount) × (at + n * parts s ^ depth ≤ mostCount)
 most {s} {states} {at} {depth} p = (
   omega (arith, p .block, count-range s (levelAbove s depth) (limits s (p .allowed)) (omega (arith, p .depth))),
   omega (arith, p .place, count-range s (s .levels - 1) (limits s (p .allowed)) (omega (arith, p .depth))),

@@ -35,7 +35,7 @@ pub record Fits (s : Shape) (l : Lengths) (T : State) : Type 0 where
 pub fits : {s : Shape} {l : Lengths} {T : State} → allowed s ≡ true → l ≡ tableLengths s → Largest T → Fits s l T
 unfolding tableLengths
 fits {s} a e g =
-    let few : blocks s ≤ 5456 = blocks-most s (limits s a) in
+    let few : blocks s ≤ mostBlocks = blocks-most s (limits s a) in
     let small : Limits s = limits s a in
     rw (e, a)
     (record {

@@ -62,11 +62,11 @@ pub record Headed (xs : List ℕ) (next : ℕ) (s : Shape) (out : List ℕ) (end
 
 -- tables at least as long as those of the largest shape
 pub record Largest (T : State) : Type 0 where
-  pub states : 5456 ≤ length (T .pool .states)
-  pub owners : 5456 ≤ length (T .pool .owners)
-  pub lists : 5461 ≤ length (T .pool .lists)
-  pub calls : 48 ≤ length (T .threads .calls)
-  pub queue : 9 ≤ length (T .threads .queue)
+  pub states : mostBlocks ≤ length (T .pool .states)
+  pub owners : mostBlocks ≤ length (T .pool .owners)
+  pub lists : mostLevels + mostBlocks ≤ length (T .pool .lists)
+  pub calls : CELLS * mostThreads ≤ length (T .threads .calls)
+  pub queue : mostThreads + 1 ≤ length (T .threads .queue)
 
 -- a script whose first record is this allowed shape, and tables of its lengths
 pub record Lent (xs : List ℕ) (next : ℕ) (s : Shape) (T : State) (out : List ℕ) (end : ℕ) : Type 0 where

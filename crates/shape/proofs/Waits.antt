@@ -37,22 +37,22 @@ none (pos zero) g e = refl
 none (pos (suc n)) g e = absurd (omega arith)
 none (negsuc n) g e = absurd (true≢false g)
 
-over : (z : ℤ) → ltZ (pos 600000) z ≡ true → Outside ≡ wait z
-unfolding wait longest
-over (pos zero) e = absurd (omega (arith, ltb-true 600000 0 e))
-over (pos (suc n)) e = rw (lt-leb (suc n) 600000 (ltb-true 600000 (suc n) e))
+over : (z : ℤ) → ltZ (pos longest) z ≡ true → Outside ≡ wait z
+unfolding wait
+over (pos zero) e = absurd (omega (arith, ltb-true longest 0 e))
+over (pos (suc n)) e = rw (lt-leb (suc n) longest (ltb-true longest (suc n) e))
 over (negsuc n) e = absurd (false≢true e)
 
 within :
-    (z : ℤ) → ltZ z (pos 0) ≡ false → (ofZ w32 z ≡ 0 → ⊥) → ltZ (pos 600000) z ≡ false →
-    Timed (record { 0 = (natAbs z + 9) / 10 }) ≡ wait z
-unfolding wait longest ticks
+    (z : ℤ) → ltZ z (pos 0) ≡ false → (ofZ w32 z ≡ 0 → ⊥) → ltZ (pos longest) z ≡ false →
+    Timed (record { 0 = ticks (natAbs z) }) ≡ wait z
+unfolding wait
 within (pos zero) g h e = absurd (h refl)
-within (pos (suc n)) g h e = rw (le-leb (suc n) 600000 (ltb-false 600000 (suc n) e))
+within (pos (suc n)) g h e = rw (le-leb (suc n) longest (ltb-false longest (suc n) e))
 within (negsuc n) g h e = absurd (true≢false g)
 
-small : (z : ℤ) → ltZ z (pos 0) ≡ false → ltZ (pos 600000) z ≡ false → T (nonNeg z) × (natAbs z ≤ 600000)
-small (pos n) g e = (tt, ltb-false 600000 n e)
+small : (z : ℤ) → ltZ z (pos 0) ≡ false → ltZ (pos longest) z ≡ false → T (nonNeg z) × (natAbs z ≤ longest)
+small (pos n) g e = (tt, ltb-false longest n e)
 small (negsuc n) g e = absurd (true≢false g)
 
 module _ (z : ℤ) (h : mag z < 2147483648) where
@@ -62,24 +62,22 @@ module _ (z : ℤ) (h : mag z < 2147483648) where
   pub never : ltZ (toZ w32 (ofZ w32 z)) (pos 0) ≡ false → ofZ w32 z ≡ 0 → Never ≡ wait z
   never g e = none z (subst (λ (y : ℤ). ltZ y (pos 0) ≡ false) (same z h) g) e
 
-  pub above : ltZ (pos 600000) (toZ w32 (ofZ w32 z)) ≡ true → Outside ≡ wait z
-  above e = over z (subst (λ (y : ℤ). ltZ (pos 600000) y ≡ true) (same z h) e)
+  pub above : ltZ (pos longest) (toZ w32 (ofZ w32 z)) ≡ true → Outside ≡ wait z
+  above e = over z (subst (λ (y : ℤ). ltZ (pos longest) y ≡ true) (same z h) e)
 
   -- a time: not negative, not 0, at most the longest
   pub timed :
       ltZ (toZ w32 (ofZ w32 z)) (pos 0) ≡ false → (ofZ w32 z ≡ 0 → ⊥) →
-      ltZ (pos 600000) (toZ w32 (ofZ w32 z)) ≡ false →
-      Timed (record { 0 = (natAbs (toZ w32 (ofZ w32 z)) + 9) / 10 }) ≡ wait z
+      ltZ (pos longest) (toZ w32 (ofZ w32 z)) ≡ false → Timed (record { 0 = ticks (natAbs (toZ w32 (ofZ w32 z))) }) ≡ wait z
   timed g n e =
       subst
-      (λ (y : ℤ).
-      ltZ y (pos 0) ≡ false → ltZ (pos 600000) y ≡ false → Timed (record { 0 = (natAbs y + 9) / 10 }) ≡ wait z)
+      (λ (y : ℤ). ltZ y (pos 0) ≡ false → ltZ (pos longest) y ≡ false → Timed (record { 0 = ticks (natAbs y) }) ≡ wait z)
       (sym (same z h))
       (λ g′ e′. within z g′ n e′)
       g
       e
 
   pub counts :
-      ltZ (toZ w32 (ofZ w32 z)) (pos 0) ≡ false → ltZ (pos 600000) (toZ w32 (ofZ w32 z)) ≡ false →
-      T (nonNeg (toZ w32 (ofZ w32 z))) × (natAbs (toZ w32 (ofZ w32 z)) ≤ 600000)
+      ltZ (toZ w32 (ofZ w32 z)) (pos 0) ≡ false → ltZ (pos longest) (toZ w32 (ofZ w32 z)) ≡ false →
+      T (nonNeg (toZ w32 (ofZ w32 z))) × (natAbs (toZ w32 (ofZ w32 z)) ≤ longest)
   counts g e = small (toZ w32 (ofZ w32 z)) g e

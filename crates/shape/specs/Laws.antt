@@ -13,16 +13,16 @@ use lib.Dec.{leb, eqb}
 use borrow.Author.Tests.{leb-true, leb-false, eqb-true}
 use Rattle.laws.specs.Tests.{both}
 use Rattle.shape.specs.declared.Shape.{Shape}
-use Rattle.shape.specs.Limits.{parts, mostCount, unit, allowed}
+use Rattle.shape.specs.Limits.{parts, mostCount, unit, allowed, mostPool, mostTopSize, mostLevels, mostBlocks, mostTops, mostThreads}
 use Rattle.shape.specs.Blocks.{size, count, levelFrom, levelFor, above, place, blocks}
 
 -- what an allowed shape's numbers are
 pub record Limits (s : Shape) : Type 0 where
-  pub pool : s .pool ≤ 255
-  pub threads : (1 ≤ s .threads) × (s .threads ≤ 8)
-  pub levels : (1 ≤ s .levels) × (s .levels ≤ 5)
-  pub tops : (1 ≤ s .tops) × (s .tops ≤ 16)
-  pub top : (1 ≤ s .«top_size») × (s .«top_size» ≤ 65536)
+  pub pool : s .pool ≤ mostPool
+  pub threads : (1 ≤ s .threads) × (s .threads ≤ mostThreads)
+  pub levels : (1 ≤ s .levels) × (s .levels ≤ mostLevels)
+  pub tops : (1 ≤ s .tops) × (s .tops ≤ mostTops)
+  pub top : (1 ≤ s .«top_size») × (s .«top_size» ≤ mostTopSize)
   pub multiple : s .«top_size» % unit s ≡ 0
 
 pub limits : (s : Shape) → allowed s ≡ true → Limits s
@@ -146,11 +146,11 @@ count-range s l h k = (
 )
 
 -- five levels of sixteen top blocks at the most
-pub blocks-most : (s : Shape) → Limits s → blocks s ≤ 5456
+pub blocks-most : (s : Shape) → Limits s → blocks s ≤ mostBlocks
 unfolding blocks above count parts
 blocks-most s h = omega (arith, above-up s (s .levels) 5 (h .levels .1))
 
-pub above-most : (s : Shape) (l : ℕ) → Limits s → l ≤ s .levels → above s l ≤ 5456
+pub above-most : (s : Shape) (l : ℕ) → Limits s → l ≤ s .levels → above s l ≤ mostBlocks
 unfolding blocks
 above-most s l h k = omega (arith, blocks-most s h, above-up s l (s .levels) k)
 
@@ -158,6 +158,22 @@ pub blocks-some : (s : Shape) → Limits s → 1 ≤ blocks s
 unfolding blocks
 blocks-some s h = omega (arith, above-up s (0 + 1) (s .levels) (h .levels .0), above-next s 0, count-top s, h .tops .0)
 
-pub size-most : (s : Shape) (l : ℕ) → Limits s → size s l ≤ 65536
+pub size-most : (s : Shape) (l : ℕ) → Limits s → size s l ≤ mostTopSize
 unfolding size
 size-most s l h = omega (arith, div-le-self (s .«top_size») (parts s ^ l), h .top)
+
+-- the bounds on blocks are those of the largest shape
+pub largest :
+    (s : Shape) → s .levels ≡ mostLevels → s .tops ≡ mostTops →
+    (count s (mostLevels - 1) ≡ mostCount) × (blocks s ≡ mostBlocks)
+unfolding blocks above count parts
+largest s l t = (rw t refl, rw (l, t) refl)
+
+-- for quarters the top size is a multiple of 4^levels, as the paper says
+pub unit-quarters : (s : Shape) → parts s ≡ 4 → 1 ≤ s .levels → unit s ≡ 4 ^ s .levels
+unfolding unit
+unit-quarters s p h = rw p (go (s .levels) h)
+  where
+    go : (l : ℕ) → 1 ≤ l → 4 * 4 ^ (l - 1) ≡ 4 ^ l
+    go zero h = absurd (omega arith)
+    go (suc l) h = let e : suc l - 1 ≡ l = omega arith in rw (e, pow-suc) (omega arith)

@@ -5,7 +5,7 @@ pub mod time;
 ghost use mathlib.Core.Path.{_≡_};
 ghost use mathlib.Core.Bool.{true};
 ghost use Prim.Native.Nat.{_^_, _<_, _≤_};
-ghost use Rattle.shape.specs.Limits.{parts, mostCount, allowed};
+ghost use Rattle.shape.specs.Limits.{parts, mostLevels, mostCount, mostBlocks, allowed};
 ghost use Rattle.shape.specs.Blocks.{size, count, offset, levelFor, id, above, place, blocks, bytes};
 
 #[repr(C)]
@@ -42,7 +42,7 @@ impl Shape {
 
     // A power of the number of parts.
     fn power(self, exponent: usize) -> usize
-        requires { ⌜ exponent < 6 ⌝ }
+        requires { ⌜ exponent ≤ mostLevels ⌝ }
         ensures { λ r. ⌜ (r ≡ parts self ^ exponent) × ((1 ≤ r) × (r ≤ 1024)) ⌝ }
     {
         1 << (Shape::PARTS_LOG * exponent)
@@ -70,7 +70,7 @@ impl Shape {
 
     // The block size at a level.
     pub fn size(self, level: usize) -> usize
-        requires { ⌜ level < 6 ⌝ }
+        requires { ⌜ level ≤ mostLevels ⌝ }
         ensures { λ r. ⌜ r ≡ size self level ⌝ }
     {
         self.top_size / self.power(level)
@@ -118,7 +118,7 @@ impl Shape {
     // How many blocks lie above a level.
     pub fn above(self, level: usize) -> usize
         requires { ⌜ (allowed self ≡ true) × (level ≤ self .levels) ⌝ }
-        ensures { λ r. ⌜ (r ≡ above self level) × (r ≤ 5456) ⌝ }
+        ensures { λ r. ⌜ (r ≡ above self level) × (r ≤ mostBlocks) ⌝ }
     {
         self.tops * ((self.power(level) - 1) / (Shape::PARTS - 1))
     }
@@ -134,7 +134,7 @@ impl Shape {
     // How many blocks all levels have together.
     pub fn blocks(self) -> usize
         requires { ⌜ allowed self ≡ true ⌝ }
-        ensures { λ r. ⌜ (r ≡ blocks self) × ((1 ≤ r) × (r ≤ 5456)) ⌝ }
+        ensures { λ r. ⌜ (r ≡ blocks self) × ((1 ≤ r) × (r ≤ mostBlocks)) ⌝ }
     {
         self.above(self.levels)
     }

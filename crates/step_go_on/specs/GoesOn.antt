@@ -40,7 +40,7 @@ module _ (s : Shape) (T : State) (t : ℕ) (g : GoesOn s T t) where
   facts : ValidFacts s T
   facts = valid-facts s T (g .runs .sound .valid)
 
-  small : s .threads ≤ 8
+  small : s .threads ≤ mostThreads
   small = limits s shape .threads .1
 
   pub mine : HasCall (T .threads .calls) t

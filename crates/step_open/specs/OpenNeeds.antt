@@ -22,7 +22,7 @@ pub record Owned (s : Shape) (states owners : List ℕ) (t : ℕ) : Type 0 where
   pub shape : allowed s ≡ true
   pub whole : length states ≡ blocks s
   pub owned : length owners ≡ blocks s
-  pub small : t < 8
+  pub small : t < mostThreads
 
 pub record GivesBlock (s : Shape) (states owners calls : List ℕ) (t l b : ℕ) : Type 0 where
   pub mine : HasCall calls t

@@ -20,7 +20,7 @@ pub record Joins (calls queue : List ℕ) (t : ℕ) : Type 0 where
   pub mine : HasCall calls t
   pub ready : QueueReady queue
   pub room : getD queue 0 0 + 1 < length queue
-  pub few : length queue ≤ 9
+  pub few : length queue ≤ mostThreads + 1
   pub small : t < 256
 
 pub record Looks (s : Shape) (lists calls queue : List ℕ) (t : ℕ) : Type 0 where
@@ -45,7 +45,7 @@ pub record Grants (s : Shape) (states owners calls : List ℕ) (t : ℕ) (c : Ca
   pub mine : HasCall calls t
   pub hand : HasBlock s states (c .level) (c .block)
   pub owned : length owners ≡ blocks s
-  pub small : t < 8
+  pub small : t < mostThreads
 
 pub record Divides (s : Shape) (states owners lists calls : List ℕ) (t : ℕ) (c : Call) : Type 0 where
   pub grants : Grants s states owners calls t c

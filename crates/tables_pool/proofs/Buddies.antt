@@ -18,7 +18,7 @@ use Rattle.rules.specs.Numbers.{FREE}
 use Rattle.rules.specs.Steps.{firstBuddy, merges}
 use Rattle.tables_pool.specs.Cells.{HasBlock}
 
-pub block-short : {s : Shape} {cells : List ℕ} {l b : ℕ} → HasBlock s cells l b → b < 4096
+pub block-short : {s : Shape} {cells : List ℕ} {l b : ℕ} → HasBlock s cells l b → b < mostCount
 block-short {s} {cells} {l} {b} h = omega (arith, count-range s l (limits s (h .shape)) (h .level), h .block)
 
 -- the first part and the first buddy are blocks of their levels

@@ -32,7 +32,7 @@ grown s lists l b n = putList s lists l (freeList s lists l ++ upFrom b n)
 
 module _ {s : Shape} {lists : List ℕ} {l : ℕ} (ready : ListReady s lists l) where
   -- a section ends where the tables do, at the latest, and a list is short
-  pub bounds : (section s l + count s l ≤ length lists) × (count s l ≤ 4096)
+  pub bounds : (section s l + count s l ≤ length lists) × (count s l ≤ mostCount)
   bounds = (
     section-inside s lists l (ready .whole) (ready .level),
     count-range s l (limits s (ready .shape)) (ready .level) .1,
@@ -124,7 +124,7 @@ module _ {s : Shape} {lists : List ℕ} {l : ℕ} (ready : ListReady s lists l) 
     -- what is left of its members is short enough to be counted there
     pub lent-count :
         (g : List ℕ → List ℕ) {n : ℕ} → ((xs : List ℕ) → length (g xs) ≤ length xs) →
-        n ≡ length (g (take (getD lists l 0) (midOf from (from + wide - from) lists))) → n ≤ 4096
+        n ≡ length (g (take (getD lists l 0) (midOf from (from + wide - from) lists))) → n ≤ mostCount
     lent-count g less e =
         omega (
           arith,

@@ -35,7 +35,7 @@ pub fn deepest(lists: &[u16], level: usize) -> Room
 // Where the members of a level's list begin.
 fn section(s: Shape, l: usize) -> usize
     requires { ⌜ (allowed s ≡ true) × (l < s .levels) ⌝ }
-    ensures { λ r. ⌜ (r ≡ section s l) × (r ≤ 5461) ⌝ }
+    ensures { λ r. ⌜ (r ≡ section s l) × (r ≤ mostLevels + mostBlocks) ⌝ }
 {
     s.levels + s.above(l)
 }

@@ -16,7 +16,7 @@ pub fn waiting_count(queue: &[u8]) -> usize
 // Thread t joins the queue's end.
 pub fn join(queue: &mut [u8], t: usize)
     requires { ⌜ QueueReady (now queue) ⌝ }
-    requires { ⌜ (getD (now queue) 0 0 + 1 < length (now queue)) × (length (now queue) ≤ 9) × (t < 256) ⌝ }
+    requires { ⌜ (getD (now queue) 0 0 + 1 < length (now queue)) × (length (now queue) ≤ mostThreads + 1) × (t < 256) ⌝ }
     ensures { λ r. ⌜ now (queue .exit) ≡ putQueue (length (now (queue .entry)) - 1) (queueOf (now (queue .entry)) ++ (t ∷ [])) ⌝ }
 {
     let end = queue[0] as usize + 1;

@@ -1,7 +1,6 @@
--- `check_calls::call::deadline_kept` meets its contract: the tests are the definition's own, and the longest wait is 60,000 ticks.
+-- `check_calls::call::deadline_kept` meets its contract: the tests are the definition's own.
 -- Assumes nothing.
 use borrow.Author.Needs.{needs}
-use Rattle.shape.specs.Time.{ticks, longest}
 use Rattle.rules.specs.Valid.{deadlineKept}
 use Rattle.check_calls.proofs.call.deadline_kept.Statement.{statement}
 use Rattle.check_calls.proofs.call.deadline_kept.Tie as tie
@@ -13,7 +12,7 @@ add-result : tie.Need-add-result
 add-result c = search needs
 
 returns : tie.Need-returns
-unfolding deadlineKept ticks longest
+unfolding deadlineKept
 returns c = cc
 
 pub deadline-kept-spec : {M : Type 1} → statement M

@@ -51,7 +51,7 @@ slice-aggregate-run-shape-5 : tie.Need-slice-aggregate-run-shape-5
 slice-aggregate-run-shape-5 c = search needs
 
 run-shape-requires : tie.Need-run-shape-requires
-run-shape-requires c κs = (heads (c .before .before .before .before .before .before .before .before .before .before .before .before .before .before .before .pre) (sym (c .before .before .before .before .before .before .before .before .before .before .before .before .read .ensures) ∙ c .before .before .before .before .before .before .before .before .before .before .step .given .1) (c .before .before .before .before .before .before .before .step2 .given .1), record { states = le-refl 5456; owners = le-refl 5456; lists = le-refl 5461; calls = le-refl 48; queue = le-refl 9 })
+run-shape-requires c κs = (heads (c .before .before .before .before .before .before .before .before .before .before .before .before .before .before .before .pre) (sym (c .before .before .before .before .before .before .before .before .before .before .before .before .read .ensures) ∙ c .before .before .before .before .before .before .before .before .before .before .step .given .1) (c .before .before .before .before .before .before .before .step2 .given .1), record { states = le-refl _; owners = le-refl _; lists = le-refl _; calls = le-refl _; queue = le-refl _ })
 
 same-length-2 : tie.Need-same-length-2
 same-length-2 c = search needs

@@ -9,6 +9,7 @@ use Rattle.shape.proofs.Powers.{sum-above}
 use borrow.Author.Needs.{needs}
 use Rattle.shape.proofs.Shape.above.Statement.{statement}
 use Rattle.shape.proofs.Shape.above.Tie as tie
+use Rattle.shape.specs.Limits.{mostBlocks}
 
 summed :
     (c : tie.After-power) →
@@ -18,7 +19,7 @@ summed c =
     sum-above (c .before .args .self) (c .before .args .level) (c .power .result)
     (omega (arith, c .before .pre .1, limits _ (c .before .pre .0) .levels .1)) (c .power .ensures .0)
 
-most : (c : tie.After-power) → above (c .before .args .self) (c .before .args .level) ≤ 5456
+most : (c : tie.After-power) → above (c .before .args .self) (c .before .args .level) ≤ mostBlocks
 most c = above-most _ _ (limits _ (c .before .pre .0)) (c .before .pre .1)
 
 power-requires : tie.Need-power-requires

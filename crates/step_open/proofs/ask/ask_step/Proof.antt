@@ -48,7 +48,7 @@ enum-known-w : tie.Need-enum-known-w
 enum-known-w c = search needs
 
 add-open : tie.Need-add-open
-unfolding ticks longest
+unfolding ticks
 add-open c = omega (arith, ap ticksOf (sym (c .before .before .before .before .wait .ensures) ∙ c .before .before .w .given .1), wait-most (c .before .before .before .before .before .before .before .before .before .before .before .before .before .args .m .0), c .before .before .before .before .before .struct-known3 .given)
 
 open-requires-3 : tie.Need-open-requires-3
