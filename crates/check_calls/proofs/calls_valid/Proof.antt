@@ -23,7 +23,9 @@ call-of-requires : tie.Need-call-of-requires Inv-loop μ-loop
 call-of-requires c κs = omega arith
 
 call-kept-requires : tie.Need-call-kept-requires Inv-loop μ-loop
-call-kept-requires c κs = (c .before .before .before .before .before .pre .0, c .before .before .before .before .before .pre .1)
+call-kept-requires c κs =
+    let start : tie.Start Inv-loop μ-loop = search in
+    (start .pre .0, start .pre .1)
 
 add-t : tie.Need-add-t Inv-loop μ-loop
 add-t c = omega arith

@@ -15,16 +15,19 @@ returns : tie.Need-returns
 returns c = rw (← c .before .queue-ends .ensures, not-true (c .before .queue-ends .result) (c .if1 .taken))
 
 waiters-queued-requires : tie.Need-waiters-queued-requires
-waiters-queued-requires c κs = (
-  c .before .before .before .before .pre .0,
-  omega (arith, length-queueOf (c .before .before .before .before .args .s) (c .before .before .before .before .args .queue .now) (c .before .before .before .before .pre .1) (sym (c .before .queue-ends .ensures) ∙ not-false _ (c .if1 .left)) .1),
-)
+waiters-queued-requires c κs =
+    let start : tie.Start = search in (
+      start .pre .0,
+      omega (arith, length-queueOf (start .args .s) (start .args .queue .now) (start .pre .1) (sym (c .before .queue-ends .ensures) ∙ not-false _ (c .if1 .left)) .1),
+    )
 
 running-ready-requires : tie.Need-running-ready-requires
 running-ready-requires c κs = search needs
 
 returns-2 : tie.Need-returns-2
-returns-2 c = rw (← c .before .before .before .queue-ends .ensures, not-false (c .before .before .before .queue-ends .result) (c .before .before .if1 .left), ← c .before .waiters-queued .ensures, ← c .running-ready .ensures)
+returns-2 c =
+    let (after-queue-ends, else1) : tie.After-queue-ends × tie.Else1 = search in
+    rw (← after-queue-ends .queue-ends .ensures, not-false (after-queue-ends .queue-ends .result) (else1 .if1 .left), ← c .before .waiters-queued .ensures, ← c .running-ready .ensures)
 
 pub queue-valid-spec : {M : Type 1} → statement M
 queue-valid-spec =

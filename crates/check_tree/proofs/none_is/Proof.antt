@@ -57,7 +57,8 @@ loop-again c = ((omega arith, omega arith), more _ _ _ _ _ (omega arith) (c .bef
 returns : tie.Need-returns Inv-loop μ-loop
 unfolding none
 returns c =
-    let e : c .before .loop .i ≡ c .before .before .args .to = omega arith in
+    let start′ : tie.Start Inv-loop μ-loop = search in
+    let e : c .before .loop .i ≡ start′ .args .to = omega arith in
     rw (← e) (c .before .loop .inv .1)
 
 pub none-is-spec : {M : Type 1} → statement M

@@ -69,30 +69,34 @@ loop-less : tie.Need-loop-less Inv-loop μ-loop
 loop-less c = omega arith
 
 loop-again : tie.Need-loop-again Inv-loop μ-loop
-loop-again c = (
-  omega arith,
-  highest-more _ _ _ _ (c .before .before .before .before .before .loop .inv .1) (c .before .larger .ensures),
-  highest-more _ _ _ _ (c .before .before .before .before .before .loop .inv .2) (c .larger2 .ensures),
-  pairs-more _ _ _ _ (c .before .before .before .before .before .loop .inv .3),
-)
+loop-again c =
+    let at-loop : tie.At-loop Inv-loop μ-loop = search in (
+      omega arith,
+      highest-more _ _ _ _ (at-loop .loop .inv .1) (c .before .larger .ensures),
+      highest-more _ _ _ _ (at-loop .loop .inv .2) (c .larger2 .ensures),
+      pairs-more _ _ _ _ (at-loop .loop .inv .3),
+    )
 
 cast-result : tie.Need-cast-result Inv-loop μ-loop
-cast-result c = omega (arith, limits (c .before .before .before .before .before .args .s) (c .before .before .before .before .before .pre .0))
+cast-result c =
+    let start : tie.Start Inv-loop μ-loop = search in
+    omega (arith, limits (start .args .s) (start .pre .0))
 
 returns : tie.Need-returns Inv-loop μ-loop
 returns c =
+    let (start, at-loop) : tie.Start Inv-loop μ-loop × tie.At-loop Inv-loop μ-loop = search in
     whole
-    (c .before .before .before .before .before .args .s)
+    (start .args .s)
     _
     _
-    (c .before .before .loop .k)
+    (at-loop .loop .k)
     _
     _
     _
     (omega arith)
-    (c .before .before .loop .inv .1)
-    (c .before .before .loop .inv .2)
-    (c .before .before .loop .inv .3)
+    (at-loop .loop .inv .1)
+    (at-loop .loop .inv .2)
+    (at-loop .loop .inv .3)
 
 pub owners-known-spec : {M : Type 1} → statement M
 owners-known-spec =

@@ -96,7 +96,8 @@ cast-expected c = tt
 
 mul-expected : tie.Need-mul-expected Inv-loop μ-loop
 mul-expected c =
-    fits (not (eqb (getD (c .before .before .before .before .before .args .states .now) (c .before .before .before .loop .i) 0) DIVIDED))
+    let (start, at-loop) : tie.Start Inv-loop μ-loop × tie.At-loop Inv-loop μ-loop = search in
+    fits (not (eqb (getD (start .args .states .now) (at-loop .loop .i) 0) DIVIDED))
 
 cast-all-free : tie.Need-cast-all-free Inv-loop μ-loop
 cast-all-free c = omega arith
@@ -111,20 +112,21 @@ loop-less : tie.Need-loop-less Inv-loop μ-loop
 loop-less c = omega arith
 
 loop-again : tie.Need-loop-again Inv-loop μ-loop
-loop-again c = (
-  omega arith,
-  omega arith,
-  more
-      (c .before .before .before .before .before .args .s)
-      (c .before .before .before .before .before .args .states .now)
-      (c .before .before .before .loop .i)
-      (c .before .before .before .loop .ok)
-      (c .before .word-at .result)
-      (c .before .before .before .before .before .pre .2)
-      (omega arith)
-      (c .before .word-at .ensures)
-      (c .before .before .before .loop .inv .2),
-)
+loop-again c =
+    let (start, at-loop) : tie.Start Inv-loop μ-loop × tie.At-loop Inv-loop μ-loop = search in (
+      omega arith,
+      omega arith,
+      more
+          (start .args .s)
+          (start .args .states .now)
+          (at-loop .loop .i)
+          (at-loop .loop .ok)
+          (c .before .word-at .result)
+          (start .pre .2)
+          (omega arith)
+          (c .before .word-at .ensures)
+          (at-loop .loop .inv .2),
+    )
 
 returns : tie.Need-returns Inv-loop μ-loop
 returns c = c .before .loop .inv .2 ∙ whole _ _ _ (omega arith)

@@ -18,61 +18,68 @@ returns c = no-owners _ _ _ (sym (c .before .owners-known .ensures) ∙ not-true
 
 none-is-requires : tie.Need-none-is-requires
 none-is-requires c κs =
-    omega (arith, tops-room (c .before .before .before .before .args .s) (c .before .before .before .before .pre .0))
+    let start : tie.Start = search in
+    omega (arith, tops-room (start .args .s) (start .pre .0))
 
 returns-2 : tie.Need-returns-2
 returns-2 c = no-tops _ _ _ (sym (tops-pass _ _) ∙ sym (c .before .none-is .ensures) ∙ not-true _ (c .if2 .taken))
 
 sub-above : tie.Need-sub-above
 sub-above c =
+    let start : tie.Start = search in
     omega (
       arith,
       limits
-          (c .before .before .before .before .before .before .before .args .s)
-          (c .before .before .before .before .before .before .before .pre .0),
+          (start .args .s)
+          (start .pre .0),
     )
 
 above-requires : tie.Need-above-requires
 above-requires c κs = search needs
 
 none-is-requires-2 : tie.Need-none-is-requires-2
-none-is-requires-2 c κs = omega (arith, deepest-room (c .before .before .before .before .before .before .before .before .args .s))
+none-is-requires-2 c κs =
+    let start : tie.Start = search in
+    omega (arith, deepest-room (start .args .s))
 
 returns-3 : tie.Need-returns-3
 returns-3 c =
+    let (start, after-above) : tie.Start × tie.After-above = search in
     no-deepest _ _ _
     (sym
     (deepest-pass _ _ _
-    (c .before .before .before .before .before .before .before .before .before .before .pre .0)
-    (c .before .before .before .before .before .before .before .before .before .before .pre .1)
-    (c .before .before .above .ensures .0))
+    (start .pre .0)
+    (start .pre .1)
+    (after-above .above .ensures .0))
     ∙ sym (c .before .none-is2 .ensures)
     ∙ not-true _ (c .if3 .taken))
 
 parts-kept-requires : tie.Need-parts-kept-requires
-parts-kept-requires c κs = (
-  c .before .before .before .before .before .before .before .before .before .before .pre .0,
-  c .before .before .before .before .before .before .before .before .before .before .pre .1,
-  both _ _
-      (sym (c .before .before .before .before .before .before .before .owners-known .ensures)
-      ∙ not-false _ (c .before .before .before .before .before .before .if1 .left)) .0,
-  c .before .before .above .ensures .0,
-)
+parts-kept-requires c κs =
+    let (start, after-owners-known, else1, after-above) : tie.Start × tie.After-owners-known × tie.Else1 × tie.After-above = search in (
+      start .pre .0,
+      start .pre .1,
+      both _ _
+          (sym (after-owners-known .owners-known .ensures)
+          ∙ not-false _ (else1 .if1 .left)) .0,
+      after-above .above .ensures .0,
+    )
 
 returns-4 : tie.Need-returns-4
 returns-4 c =
+    let (start, after-owners-known, else1, after-none-is, else2, after-above, after-none-is2) : tie.Start × tie.After-owners-known × tie.Else1 × tie.After-none-is × tie.Else2 × tie.After-above × tie.After-none-is2 = search in
     all _ _ _ _
-    (sym (c .before .before .before .before .before .before .before .before .owners-known .ensures)
-    ∙ not-false _ (c .before .before .before .before .before .before .before .if1 .left))
+    (sym (after-owners-known .owners-known .ensures)
+    ∙ not-false _ (else1 .if1 .left))
     (sym (tops-pass _ _)
-    ∙ sym (c .before .before .before .before .before .before .none-is .ensures)
-    ∙ not-false _ (c .before .before .before .before .before .if2 .left))
+    ∙ sym (after-none-is .none-is .ensures)
+    ∙ not-false _ (else2 .if2 .left))
     (sym
     (deepest-pass _ _ _
-    (c .before .before .before .before .before .before .before .before .before .before .before .pre .0)
-    (c .before .before .before .before .before .before .before .before .before .before .before .pre .1)
-    (c .before .before .before .above .ensures .0))
-    ∙ sym (c .before .before .none-is2 .ensures)
+    (start .pre .0)
+    (start .pre .1)
+    (after-above .above .ensures .0))
+    ∙ sym (after-none-is2 .none-is2 .ensures)
     ∙ not-false _ (c .before .if3 .left))
     (c .parts-kept .ensures)
 

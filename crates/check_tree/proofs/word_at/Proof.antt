@@ -14,12 +14,15 @@ use Rattle.check_tree.proofs.word_at.Tie as tie
 wide : (x : ℕ) → Fits w8 x → Fits w32 x
 wide x h = omega arith
 
+abbrev its-start : tie.After-shared-slice-known4 → tie.Start
+its-start c = c .before .before .before .before
+
 bytes :
     (c : tie.After-shared-slice-known4) →
-    Fits w8 (getD (c .before .before .before .before .args .cells .now) (c .before .before .before .before .args .at) 0)
-    × Fits w8 (getD (c .before .before .before .before .args .cells .now) (c .before .before .before .before .args .at + 1) 0)
-    × Fits w8 (getD (c .before .before .before .before .args .cells .now) (c .before .before .before .before .args .at + 2) 0)
-    × Fits w8 (getD (c .before .before .before .before .args .cells .now) (c .before .before .before .before .args .at + 3) 0)
+    Fits w8 (getD (its-start c .args .cells .now) (its-start c .args .at) 0)
+    × Fits w8 (getD (its-start c .args .cells .now) (its-start c .args .at + 1) 0)
+    × Fits w8 (getD (its-start c .args .cells .now) (its-start c .args .at + 2) 0)
+    × Fits w8 (getD (its-start c .args .cells .now) (its-start c .args .at + 3) 0)
 bytes c = (
   c .shared-slice-known4 .given _,
   c .shared-slice-known4 .given _,

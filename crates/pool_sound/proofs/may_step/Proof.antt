@@ -9,16 +9,22 @@ cast-running : tie.Need-cast-running
 cast-running c = search needs
 
 returns : tie.Need-returns
-returns c = no-thread (c .before .before .before .args .s) (c .before .before .before .args .d) (c .before .before .before .args .t) (c .if1 .taken)
+returns c =
+    let start : tie.Start = search in
+    no-thread (start .args .s) (start .args .d) (start .args .t) (c .if1 .taken)
 
 add-if2 : tie.Need-add-if2
 add-if2 c = search needs
 
 returns-2 : tie.Need-returns-2
-returns-2 c = not-running (c .before .before .before .before .args .s) (c .before .before .before .before .args .d) (c .before .before .before .before .args .t) (c .before .if1 .left) (c .if2 .taken)
+returns-2 c =
+    let start : tie.Start = search in
+    not-running (start .args .s) (start .args .d) (start .args .t) (c .before .if1 .left) (c .if2 .taken)
 
 returns-3 : tie.Need-returns-3
-returns-3 c = runs (c .before .before .before .before .args .s) (c .before .before .before .before .args .d) (c .before .before .before .before .args .t) (c .before .if1 .left) (c .if2 .left)
+returns-3 c =
+    let start : tie.Start = search in
+    runs (start .args .s) (start .args .d) (start .args .t) (c .before .if1 .left) (c .if2 .left)
 
 pub may-step-spec : {M : Type 1} → statement M
 may-step-spec = tie.close (tie.spec cast-running returns add-if2 returns-2 returns-3)

@@ -28,7 +28,14 @@ abbrev rule : tie.Start → ℤ → Outcome
 rule b w = ask (b .args .s) (state (now (b .args .states)) (now (b .args .owners)) (now (b .args .lists)) (now (b .args .calls)) (now (b .args .queue)) (b .args .d)) (b .args .t) (b .args .size) (millis w)
 
 returns : tie.Need-returns
-returns c = tells (c .say .ensures) (c .before .before .before .ask .ensures ∙ ap (rule (c .before .before .before .before .before .before .before .before .before .before)) (toZ-ofZ w32 (c .before .before .before .before .before .before .before .before .before .before .args .wait) (c .before .before .before .before .before .before .before .before .before .before .fits .wait)))
+returns c =
+    tells (c .say .ensures) (after-ask .ask .ensures ∙ ap (rule start) (toZ-ofZ w32 (start .args .wait) (start .fits .wait)))
+  where
+    start : tie.Start
+    start = search
+
+    after-ask : tie.After-ask
+    after-ask = search
 
 pub saltbalance-ask-spec : {M : Type 1} → statement M
 saltbalance-ask-spec = tie.close (tie.spec ask-requires say-requires same-length returns)

@@ -21,7 +21,11 @@ same-length-3 : tie.Need-same-length-3
 same-length-3 c = search needs
 
 returns : tie.Need-returns
-returns c = tells (c .say .ensures) (c .before .before .before .before .before .before .before .give-back .ensures)
+returns c =
+    tells (c .say .ensures) (after-give-back .give-back .ensures)
+  where
+    after-give-back : tie.After-give-back
+    after-give-back = search
 
 pub saltbalance-give-back-spec : {M : Type 1} → statement M
 saltbalance-give-back-spec =

@@ -15,7 +15,11 @@ same-length : tie.Need-same-length
 same-length c = search needs
 
 returns : tie.Need-returns
-returns c = tells-row (c .say-count .ensures) (c .before .before .before .map .ensures)
+returns c =
+    tells-row (c .say-count .ensures) (after-map .map .ensures)
+  where
+    after-map : tie.After-map
+    after-map = search
 
 pub saltbalance-map-spec : {M : Type 1} → statement M
 saltbalance-map-spec = tie.close (tie.spec map-requires say-count-requires same-length returns)

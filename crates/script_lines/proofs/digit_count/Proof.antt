@@ -19,7 +19,9 @@ loop-holds : tie.Need-loop-holds Inv-loop μ-loop
 loop-holds c = omega arith
 
 add-count : tie.Need-add-count Inv-loop μ-loop
-add-count c = omega (arith, digits-some (c .before .loop .rest), digits-short 19 (c .before .before .args .n) (omega arith))
+add-count c =
+    let start : tie.Start Inv-loop μ-loop = search in
+    omega (arith, digits-some (c .before .loop .rest), digits-short 19 (start .args .n) (omega arith))
 
 loop-less : tie.Need-loop-less Inv-loop μ-loop
 loop-less c = omega arith

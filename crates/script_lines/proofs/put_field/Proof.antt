@@ -24,7 +24,9 @@ same-length c = search needs
 
 returns : tie.Need-returns
 unfolding field
-returns c = put-behind (now (c .before .before .before .before .before .args .out)) (c .before .before .before .before .before .args .at) (digits (c .before .before .before .before .before .args .n)) (c .before .before .before .before .before .args .behind ∷ []) (c .before .before .put-number .ensures) (refl, refl)
+returns c =
+    let (start, after-put-number) : tie.Start × tie.After-put-number = search in
+    put-behind (now (start .args .out)) (start .args .at) (digits (start .args .n)) (start .args .behind ∷ []) (after-put-number .put-number .ensures) (refl, refl)
 
 pub put-field-spec : {M : Type 1} → statement M
 put-field-spec =

@@ -34,7 +34,9 @@ loop-less : tie.Need-loop-less Inv-loop μ-loop
 loop-less c = omega arith
 
 loop-again : tie.Need-loop-again Inv-loop μ-loop
-loop-again c = (omega arith, rw (c .before .before .loop .inv .1) (rw zero-add at (sets-copied (now (c .before .before .before .before .args .out)) header 0 (c .before .before .loop .i) (omega arith))))
+loop-again c =
+    let (start, at-loop) : tie.Start Inv-loop μ-loop × tie.At-loop Inv-loop μ-loop = search in
+    (omega arith, rw (at-loop .loop .inv .1) (rw zero-add at (sets-copied (now (start .args .out)) header 0 (at-loop .loop .i) (omega arith))))
 
 same-length : tie.Need-same-length Inv-loop μ-loop
 same-length c = ap length (c .before .loop .inv .1) ∙ simp length-sets

@@ -48,7 +48,9 @@ cast-out-2 : tie.Need-cast-out-2 Inv-loop μ-loop
 cast-out-2 c = omega arith
 
 slice-write-out-2 : tie.Need-slice-write-out-2 Inv-loop μ-loop
-slice-write-out-2 c = omega (arith, digits-some (c .before .before .before .before .args .n), filled-length (c .before .loop .inv))
+slice-write-out-2 c =
+    let start : tie.Start Inv-loop μ-loop = search in
+    omega (arith, digits-some (start .args .n), filled-length (c .before .loop .inv))
 
 same-length : tie.Need-same-length Inv-loop μ-loop
 same-length c = simp length-set (filled-length (c .before .loop .inv))

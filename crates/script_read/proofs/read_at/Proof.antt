@@ -17,13 +17,19 @@ enum-told : tie.Need-enum-told
 enum-told c = search needs
 
 returns : tie.Need-returns
-returns c = cut (c .before .before .before .before .args .script .now) (c .before .before .before .before .args .at) (sym (c .before .before .field-at .ensures) ∙ c .enum-told .given .1)
+returns c =
+    let (start, after-field-at) : tie.Start × tie.After-field-at = search in
+    cut (start .args .script .now) (start .args .at) (sym (after-field-at .field-at .ensures) ∙ c .enum-told .given .1)
 
 returns-2 : tie.Need-returns-2
-returns-2 c = misplaced (c .before .before .before .before .before .before .args .script .now) (c .before .before .before .before .before .before .args .at) (c .before .before .field .given .0 .0) (sym (c .before .before .before .before .field-at .ensures) ∙ c .before .before .field .given .1) (c .if1 .taken)
+returns-2 c =
+    let (start, after-field-at, after-field) : tie.Start × tie.After-field-at × tie.After-field = search in
+    misplaced (start .args .script .now) (start .args .at) (after-field .field .given .0 .0) (sym (after-field-at .field-at .ensures) ∙ after-field .field .given .1) (c .if1 .taken)
 
 value-requires : tie.Need-value-requires
-value-requires c κs = value-within (c .before .before .before .before .before .before .args .script .now) (c .before .before .before .before .before .before .args .at) (c .before .before .field .given .0 .0) (sym (c .before .before .before .before .field-at .ensures) ∙ c .before .before .field .given .1)
+value-requires c κs =
+    let (start, after-field-at, after-field) : tie.Start × tie.After-field-at × tie.After-field = search in
+    value-within (start .args .script .now) (start .args .at) (after-field .field .given .0 .0) (sym (after-field-at .field-at .ensures) ∙ after-field .field .given .1)
 
 decode-requires : tie.Need-decode-requires
 decode-requires c κs = search needs
@@ -36,19 +42,21 @@ enum-told-2 c = search needs
 
 returns-3 : tie.Need-returns-3
 returns-3 c =
-    reads (c .before .before .before .before .before .before .before .before .before .before .before .args .script .now) (c .before .before .before .before .before .before .before .before .before .before .before .args .at) (c .before .before .before .before .before .before .before .field .given .0 .0) (sym (c .before .before .before .before .before .before .before .before .before .field-at .ensures) ∙ c .before .before .before .before .before .before .before .field .given .1) (c .before .before .before .before .before .if1 .left)
-    (c .before .before .before .before .value .result .now)
-    (c .before .before .before .before .value .ensures)
+    let (start, after-field-at, after-field, else1, after-value, after-decode) : tie.Start × tie.After-field-at × tie.After-field × tie.Else1 × tie.After-value × tie.After-decode = search in
+    reads (start .args .script .now) (start .args .at) (after-field .field .given .0 .0) (sym (after-field-at .field-at .ensures) ∙ after-field .field .given .1) (else1 .if1 .left)
+    (after-value .value .result .now)
+    (after-value .value .ensures)
     (Good (c .before .«record» .given .0 .0))
-    (sym (c .before .«record» .given .1) ∙ c .before .before .before .decode .ensures)
+    (sym (c .before .«record» .given .1) ∙ after-decode .decode .ensures)
 
 returns-4 : tie.Need-returns-4
 returns-4 c =
-    reads (c .before .before .before .before .before .before .before .before .before .before .args .script .now) (c .before .before .before .before .before .before .before .before .before .before .args .at) (c .before .before .before .before .before .before .field .given .0 .0) (sym (c .before .before .before .before .before .before .before .before .field-at .ensures) ∙ c .before .before .before .before .before .before .field .given .1) (c .before .before .before .before .if1 .left)
-    (c .before .before .before .value .result .now)
-    (c .before .before .before .value .ensures)
+    let (start, after-field-at, after-field, else1, after-value, after-decode) : tie.Start × tie.After-field-at × tie.After-field × tie.Else1 × tie.After-value × tie.After-decode = search in
+    reads (start .args .script .now) (start .args .at) (after-field .field .given .0 .0) (sym (after-field-at .field-at .ensures) ∙ after-field .field .given .1) (else1 .if1 .left)
+    (after-value .value .result .now)
+    (after-value .value .ensures)
     Bad
-    (sym (c .enum-told2 .given .1) ∙ c .before .before .decode .ensures)
+    (sym (c .enum-told2 .given .1) ∙ after-decode .decode .ensures)
 
 pub read-at-spec : {M : Type 1} → statement M
 read-at-spec =

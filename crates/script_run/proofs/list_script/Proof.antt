@@ -14,19 +14,27 @@ put-line-requires : tie.Need-put-line-requires
 put-line-requires c κs = search needs
 
 returns : tie.Need-returns
-returns c = empty (now (c .before .before .before .before .before .before .args .script)) (now (c .before .before .before .before .before .before .args .out)) (omega arith) (c .before .before .before .put-header .ensures) (omega arith) (c .put-line .ensures)
+returns c =
+    let (start, after-put-header) : tie.Start × tie.After-put-header = search in
+    empty (now (start .args .script)) (now (start .args .out)) (omega arith) (after-put-header .put-header .ensures) (omega arith) (c .put-line .ensures)
 
 put-line-requires-2 : tie.Need-put-line-requires-2
 put-line-requires-2 c κs = search needs
 
 returns-2 : tie.Need-returns-2
-returns-2 c = too-long (now (c .before .before .before .before .before .before .before .args .script)) (now (c .before .before .before .before .before .before .before .args .out)) (omega arith) (c .before .before .before .before .put-header .ensures) (omega arith) (c .put-line2 .ensures)
+returns-2 c =
+    let (start, after-put-header) : tie.Start × tie.After-put-header = search in
+    too-long (now (start .args .script)) (now (start .args .out)) (omega arith) (after-put-header .put-header .ensures) (omega arith) (c .put-line2 .ensures)
 
 run-first-requires : tie.Need-run-first-requires
-run-first-requires c κs = titled (now (c .before .before .before .before .before .before .args .script)) (now (c .before .before .before .before .before .before .args .out)) (omega arith) (c .before .before .before .put-header .ensures) (omega arith) (omega arith)
+run-first-requires c κs =
+    let (start, after-put-header) : tie.Start × tie.After-put-header = search in
+    titled (now (start .args .script)) (now (start .args .out)) (omega arith) (after-put-header .put-header .ensures) (omega arith) (omega arith)
 
 returns-3 : tie.Need-returns-3
-returns-3 c = run-whole (now (c .before .before .before .before .before .before .before .args .script)) (now (c .before .before .before .before .before .before .before .args .out)) (omega arith) (c .before .before .before .before .put-header .ensures) (omega arith) (omega arith) (c .run-first .ensures)
+returns-3 c =
+    let (start, after-put-header) : tie.Start × tie.After-put-header = search in
+    run-whole (now (start .args .script)) (now (start .args .out)) (omega arith) (after-put-header .put-header .ensures) (omega arith) (omega arith) (c .run-first .ensures)
 
 pub list-script-spec : {M : Type 1} → statement M
 list-script-spec =

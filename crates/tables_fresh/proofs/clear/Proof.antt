@@ -14,7 +14,9 @@ same-length : tie.Need-same-length
 same-length c = search needs
 
 returns : tie.Need-returns
-returns c = c .before .before .fill .ensures ∙ fill-all _ 0 (now (c .before .before .before .before .before .args .cells)) refl
+returns c =
+    let (start, after-fill) : tie.Start × tie.After-fill = search in
+    after-fill .fill .ensures ∙ fill-all _ 0 (now (start .args .cells)) refl
 
 pub clear-spec : {M : Type 1} → statement M
 clear-spec = tie.close (tie.spec fill-requires same-length returns)

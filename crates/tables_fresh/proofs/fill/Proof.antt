@@ -39,7 +39,8 @@ same-length c = c .before .loop .inv .1
 
 returns : tie.Need-returns Inv-loop μ-loop
 returns c =
-    let e : c .before .loop .i ≡ c .before .before .args .n = omega arith in
+    let start : tie.Start Inv-loop μ-loop = search in
+    let e : c .before .loop .i ≡ start .args .n = omega arith in
     rw (← e) (c .before .loop .inv .2)
 
 pub fill-spec : {M : Type 1} → statement M

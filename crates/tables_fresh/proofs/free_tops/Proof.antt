@@ -11,14 +11,16 @@ fill-requires c κs = search needs
 
 fill-requires-2 : tie.Need-fill-requires-2
 fill-requires-2 c κs =
-    tops-inside _ (now (c .before .before .before .before .before .before .args .states)) (c .before .before .before .before .before .before .pre .0) (c .before .before .before .before .before .before .pre .1) (c .before .before .before .fill .ensures)
+    let (start, after-fill) : tie.Start × tie.After-fill = search in
+    tops-inside _ (now (start .args .states)) (start .pre .0) (start .pre .1) (after-fill .fill .ensures)
 
 same-length : tie.Need-same-length
 same-length c = search needs
 
 returns : tie.Need-returns
 returns c =
-    tops-free _ (now (c .before .before .before .before .before .before .before .before .before .args .states)) (c .before .before .before .before .before .before .before .before .before .pre .1) (c .before .before .before .before .before .before .fill .ensures) (c .before .before .fill2 .ensures)
+    let (start, after-fill, after-fill2) : tie.Start × tie.After-fill × tie.After-fill2 = search in
+    tops-free _ (now (start .args .states)) (start .pre .1) (after-fill .fill .ensures) (after-fill2 .fill2 .ensures)
 
 pub free-tops-spec : {M : Type 1} → statement M
 free-tops-spec = tie.close (tie.spec fill-requires fill-requires-2 same-length returns)

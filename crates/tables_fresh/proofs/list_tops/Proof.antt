@@ -22,20 +22,24 @@ clear-lists-requires : tie.Need-clear-lists-requires Inv-loop μ-loop
 clear-lists-requires c κs = search needs
 
 loop-holds : tie.Need-loop-holds Inv-loop μ-loop
-loop-holds c = (
-  omega arith,
-  c .before .before .clear-lists .ensures ∙ ap (λ (n : ℕ). replicate n 0) (c .before .before .before .before .before .pre .1) ∙ none-listed _ (c .before .before .before .before .before .pre .0),
-)
+loop-holds c =
+    let (start, after-clear-lists) : tie.Start Inv-loop μ-loop × tie.After-clear-lists Inv-loop μ-loop = search in (
+      omega arith,
+      after-clear-lists .clear-lists .ensures ∙ ap (λ (n : ℕ). replicate n 0) (start .pre .1) ∙ none-listed _ (start .pre .0),
+    )
 
 append-requires : tie.Need-append-requires Inv-loop μ-loop
-append-requires c κs = (
-  rw (c .before .before .before .loop .inv .1) (listed-ready _ (c .before .before .before .before .before .before .before .before .before .pre .0) (c .before .before .before .loop .b) (omega arith) .0),
-  rw (c .before .before .before .loop .inv .1) (listed-ready _ (c .before .before .before .before .before .before .before .before .before .pre .0) (c .before .before .before .loop .b) (omega arith) .1),
-  omega (arith, limits _ (c .before .before .before .before .before .before .before .before .before .pre .0) .tops .1),
-)
+append-requires c κs =
+    let (start, at-loop) : tie.Start Inv-loop μ-loop × tie.At-loop Inv-loop μ-loop = search in (
+      rw (at-loop .loop .inv .1) (listed-ready _ (start .pre .0) (at-loop .loop .b) (omega arith) .0),
+      rw (at-loop .loop .inv .1) (listed-ready _ (start .pre .0) (at-loop .loop .b) (omega arith) .1),
+      omega (arith, limits _ (start .pre .0) .tops .1),
+    )
 
 add-b : tie.Need-add-b Inv-loop μ-loop
-add-b c = omega (arith, limits _ (c .before .before .before .before .before .before .before .before .before .before .before .before .pre .0) .tops .1)
+add-b c =
+    let start : tie.Start Inv-loop μ-loop = search in
+    omega (arith, limits _ (start .pre .0) .tops .1)
 
 loop-less : tie.Need-loop-less Inv-loop μ-loop
 loop-less c = omega arith
@@ -47,14 +51,17 @@ loop-again c = (
 )
 
 same-length : tie.Need-same-length Inv-loop μ-loop
-same-length c = ap length (c .before .before .loop .inv .1) ∙ listed-length _ (c .before .before .before .before .before .before .before .before .pre .0) _ ∙ sym (c .before .before .before .before .before .before .before .before .pre .1)
+same-length c =
+    let (start, at-loop) : tie.Start Inv-loop μ-loop × tie.At-loop Inv-loop μ-loop = search in
+    ap length (at-loop .loop .inv .1) ∙ listed-length _ (start .pre .0) _ ∙ sym (start .pre .1)
 
 returns : tie.Need-returns Inv-loop μ-loop
 unfolding fresh
 returns c =
-    let s = c .before .before .before .before .before .before .before .before .args .s in
-    let e : c .before .before .loop .b ≡ s .tops = omega arith in
-    c .before .before .loop .inv .1 ∙ ap (λ (n : ℕ). putList s (empty s) 0 (upFrom 0 n)) e
+    let (start, at-loop) : tie.Start Inv-loop μ-loop × tie.At-loop Inv-loop μ-loop = search in
+    let s = start .args .s in
+    let e : at-loop .loop .b ≡ s .tops = omega arith in
+    at-loop .loop .inv .1 ∙ ap (λ (n : ℕ). putList s (empty s) 0 (upFrom 0 n)) e
 
 pub list-tops-spec : {M : Type 1} → statement M
 list-tops-spec =

@@ -37,8 +37,9 @@ same-length-5 c = search needs
 
 returns : tie.Need-returns
 returns c =
-    tables-fresh _ _ (c .before .before .before .before .before .before .before .before .before .before .before .before .before .before .before .before .before .before .before .before .before .before .before .before .before .pre .1) (c .before .before .before .before .before .before .before .before .before .before .before .before .before .before .before .before .before .before .free-tops .ensures) (c .before .before .before .before .before .before .before .before .before .before .before .before .before .before .clear .ensures) (c .before .before .before .before .before .before .before .before .before .before .list-tops .ensures) (c .before .before .before .before .before .before .clear-calls .ensures)
-    (c .before .before .clear2 .ensures)
+    let (start, after-free-tops, after-clear, after-list-tops, after-clear-calls, after-clear2) : tie.Start × tie.After-free-tops × tie.After-clear × tie.After-list-tops × tie.After-clear-calls × tie.After-clear2 = search in
+    tables-fresh _ _ (start .pre .1) (after-free-tops .free-tops .ensures) (after-clear .clear .ensures) (after-list-tops .list-tops .ensures) (after-clear-calls .clear-calls .ensures)
+    (after-clear2 .clear2 .ensures)
 
 pub make-fresh-spec : {M : Type 1} → statement M
 make-fresh-spec =

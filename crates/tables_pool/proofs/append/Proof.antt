@@ -14,28 +14,40 @@ slice-read-n : tie.Need-slice-read-n
 slice-read-n c = search needs
 
 cast-n : tie.Need-cast-n
-cast-n c = omega (arith, c .slice-known2 .given (c .before .before .args .l))
+cast-n c =
+    let start : tie.Start = search in
+    omega (arith, c .slice-known2 .given (start .args .l))
 
 section-requires : tie.Need-section-requires
 section-requires c κs = search needs
 
 add-at : tie.Need-add-at
-add-at c = omega (arith, bounds (c .before .before .before .pre .0))
+add-at c =
+    let start : tie.Start = search in
+    omega (arith, bounds (start .pre .0))
 
 cast-lists : tie.Need-cast-lists
 cast-lists c = search needs
 
 mul-lists : tie.Need-mul-lists
-mul-lists c = omega (arith, bounds (c .before .before .before .pre .0))
+mul-lists c =
+    let start : tie.Start = search in
+    omega (arith, bounds (start .pre .0))
 
 slice-write-lists : tie.Need-slice-write-lists
-slice-write-lists c = omega (arith, bounds (c .before .before .before .pre .0))
+slice-write-lists c =
+    let start : tie.Start = search in
+    omega (arith, bounds (start .pre .0))
 
 add-lists : tie.Need-add-lists
-add-lists c = omega (arith, bounds (c .before .before .before .pre .0))
+add-lists c =
+    let start : tie.Start = search in
+    omega (arith, bounds (start .pre .0))
 
 cast-lists-2 : tie.Need-cast-lists-2
-cast-lists-2 c = omega (arith, bounds (c .before .before .before .pre .0))
+cast-lists-2 c =
+    let start : tie.Start = search in
+    omega (arith, bounds (start .pre .0))
 
 mul-lists-2 : tie.Need-mul-lists-2
 mul-lists-2 c = search needs
@@ -48,8 +60,9 @@ same-length c = search needs
 
 returns : tie.Need-returns
 returns c =
+    let start : tie.Start = search in
     rw (c .section .ensures .0)
-    (appended (c .before .before .before .pre .0) (c .before .before .before .args .b) (c .before .before .before .pre .1))
+    (appended (start .pre .0) (start .args .b) (start .pre .1))
 
 pub append-spec : {M : Type 1} → statement M
 append-spec =

@@ -28,13 +28,14 @@ add-append c = omega arith
 
 append-requires : tie.Need-append-requires Inv-loop μ-loop
 unfolding parts
-append-requires c κs = (
-  rw (c .before .before .loop .inv .1)
-      (grown-ready (c .before .before .before .before .pre .0) (c .before .before .before .before .args .b) (c .before .before .loop .j) (omega arith) .0),
-  rw (c .before .before .loop .inv .1)
-      (grown-ready (c .before .before .before .before .pre .0) (c .before .before .before .before .args .b) (c .before .before .loop .j) (omega arith) .1),
-  omega arith,
-)
+append-requires c κs =
+    let (start, at-loop) : tie.Start Inv-loop μ-loop × tie.At-loop Inv-loop μ-loop = search in (
+      rw (at-loop .loop .inv .1)
+          (grown-ready (start .pre .0) (start .args .b) (at-loop .loop .j) (omega arith) .0),
+      rw (at-loop .loop .inv .1)
+          (grown-ready (start .pre .0) (start .args .b) (at-loop .loop .j) (omega arith) .1),
+      omega arith,
+    )
 
 add-j : tie.Need-add-j Inv-loop μ-loop
 unfolding parts

@@ -70,16 +70,18 @@ shared-slice-read-if1 c = omega arith
 
 returns : tie.Need-returns Inv-loop μ-loop
 returns c =
-    sym (c .before .before .before .loop .inv .1 ∙ here _ (c .before .before .before .loop .l) (omega arith) (c .if1 .taken))
+    let at-loop : tie.At-loop Inv-loop μ-loop = search in
+    sym (at-loop .loop .inv .1 ∙ here _ (at-loop .loop .l) (omega arith) (c .if1 .taken))
 
 loop-less : tie.Need-loop-less Inv-loop μ-loop
 loop-less c = omega arith
 
 loop-again : tie.Need-loop-again Inv-loop μ-loop
-loop-again c = (
-  omega arith,
-  c .before .before .before .loop .inv .1 ∙ higher _ (c .before .before .before .loop .l) (omega arith) (c .if1 .left),
-)
+loop-again c =
+    let at-loop : tie.At-loop Inv-loop μ-loop = search in (
+      omega arith,
+      at-loop .loop .inv .1 ∙ higher _ (at-loop .loop .l) (omega arith) (c .if1 .left),
+    )
 
 returns-2 : tie.Need-returns-2 Inv-loop μ-loop
 returns-2 c = sym (c .before .loop .inv .1 ∙ none _ (c .before .loop .l) (omega arith))

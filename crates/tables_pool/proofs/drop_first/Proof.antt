@@ -14,7 +14,9 @@ slice-read-n : tie.Need-slice-read-n
 slice-read-n c = search needs
 
 cast-n : tie.Need-cast-n
-cast-n c = omega (arith, c .slice-known2 .given (c .before .before .args .l))
+cast-n c =
+    let start : tie.Start = search in
+    omega (arith, c .slice-known2 .given (start .args .l))
 
 section-requires : tie.Need-section-requires
 section-requires c κs = search needs
@@ -35,16 +37,19 @@ part-drop-first-start : tie.Need-part-drop-first-start
 part-drop-first-start c = search needs
 
 part-drop-first-end : tie.Need-part-drop-first-end
-part-drop-first-end c = omega (arith, bounds (c .before .before .before .before .pre .0))
+part-drop-first-end c =
+    let start : tie.Start = search in
+    omega (arith, bounds (start .pre .0))
 
 drop-first-requires : tie.Need-drop-first-requires
-drop-first-requires c κs = (
-  lent-ended
-      (c .before .before .before .before .before .pre .0)
-      (c .before .before .section .ensures .0)
-      (c .before .count .ensures .0),
-  c .before .before .before .before .before .pre .1,
-)
+drop-first-requires c κs =
+    let (start, after-section) : tie.Start × tie.After-section = search in (
+      lent-ended
+          (start .pre .0)
+          (after-section .section .ensures .0)
+          (c .before .count .ensures .0),
+      start .pre .1,
+    )
 
 sub-lists : tie.Need-sub-lists
 sub-lists c = search needs
@@ -63,19 +68,20 @@ same-length c = search needs
 
 returns : tie.Need-returns
 returns c =
+    let (start, after-section, after-count, after-drop-first) : tie.Start × tie.After-section × tie.After-count × tie.After-drop-first = search in
     lent-back
-    (c .before .before .before .before .before .before .before .before .pre .0)
-    (c .before .before .before .before .before .section .ensures .0)
-    (c .before .before .before .before .count .ensures .0)
+    (start .pre .0)
+    (after-section .section .ensures .0)
+    (after-count .count .ensures .0)
     (drop 1)
     (λ xs. omega (arith, length-drop 1 xs))
-    (c .before .before .drop-first .ensures)
+    (after-drop-first .drop-first .ensures)
     (rw (
       length-drop,
       lent-members
-          (c .before .before .before .before .before .before .before .before .pre .0)
-          (c .before .before .before .before .before .section .ensures .0)
-          (c .before .before .before .before .count .ensures .0),
+          (start .pre .0)
+          (after-section .section .ensures .0)
+          (after-count .count .ensures .0),
     ))
 
 pub drop-first-spec : {M : Type 1} → statement M

@@ -14,14 +14,17 @@ mul-result : tie.Need-mul-result
 mul-result c = search needs
 
 shared-slice-read-result : tie.Need-shared-slice-read-result
-shared-slice-read-result c = omega (arith, bounds (c .before .before .before .pre .0))
+shared-slice-read-result c =
+    let start : tie.Start = search in
+    omega (arith, bounds (start .pre .0))
 
 cast-result : tie.Need-cast-result
 cast-result c = omega (arith, c .shared-slice-known2 .given (c .before .section .result))
 
 returns : tie.Need-returns
 returns c =
-    rw (first-member (c .before .before .before .pre .0) (c .before .before .before .pre .1), add-zero)
+    let start : tie.Start = search in
+    rw (first-member (start .pre .0) (start .pre .1), add-zero)
     (rw (c .before .section .ensures .0))
 
 pub first-spec : {M : Type 1} → statement M

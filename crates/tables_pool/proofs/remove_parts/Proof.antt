@@ -17,7 +17,9 @@ slice-read-n : tie.Need-slice-read-n
 slice-read-n c = search needs
 
 cast-n : tie.Need-cast-n
-cast-n c = omega (arith, c .slice-known2 .given (c .before .before .args .l))
+cast-n c =
+    let start : tie.Start = search in
+    omega (arith, c .slice-known2 .given (start .args .l))
 
 section-requires : tie.Need-section-requires
 section-requires c κs = search needs
@@ -38,30 +40,34 @@ part-remove-parts-start : tie.Need-part-remove-parts-start
 part-remove-parts-start c = search needs
 
 part-remove-parts-end : tie.Need-part-remove-parts-end
-part-remove-parts-end c = omega (arith, bounds (c .before .before .before .before .pre))
+part-remove-parts-end c =
+    let start : tie.Start = search in
+    omega (arith, bounds (start .pre))
 
 remove-parts-requires : tie.Need-remove-parts-requires
-remove-parts-requires c κs = (
-  lent-ended
-      (c .before .before .before .before .before .pre)
-      (c .before .before .section .ensures .0)
-      (c .before .count .ensures .0),
-  omega arith,
-)
+remove-parts-requires c κs =
+    let (start, after-section) : tie.Start × tie.After-section = search in (
+      lent-ended
+          (start .pre)
+          (after-section .section .ensures .0)
+          (c .before .count .ensures .0),
+      omega arith,
+    )
 
 cast-lists : tie.Need-cast-lists
 cast-lists c =
+    let (start, after-section, after-count, after-remove-parts) : tie.Start × tie.After-section × tie.After-count × tie.After-remove-parts = search in
     record {
       fits =
           omega (
             arith,
             lent-count
-                (c .before .before .before .before .before .before .before .before .pre)
-                (c .before .before .before .before .before .section .ensures .0)
-                (c .before .before .before .before .count .ensures .0)
-                (keep (elsewhere 4 (c .before .before .before .before .before .before .before .before .args .parent)))
+                (start .pre)
+                (after-section .section .ensures .0)
+                (after-count .count .ensures .0)
+                (keep (elsewhere 4 (start .args .parent)))
                 (keep-most _)
-                (c .before .before .remove-parts .ensures .0),
+                (after-remove-parts .remove-parts .ensures .0),
           );
     }
 
@@ -77,14 +83,15 @@ same-length c = search needs
 returns : tie.Need-returns
 unfolding parts
 returns c =
+    let (start, after-section, after-count, after-remove-parts) : tie.Start × tie.After-section × tie.After-count × tie.After-remove-parts = search in
     lent-back
-    (c .before .before .before .before .before .before .before .before .pre)
-    (c .before .before .before .before .before .section .ensures .0)
-    (c .before .before .before .before .count .ensures .0)
-    (keep (elsewhere 4 (c .before .before .before .before .before .before .before .before .args .parent)))
+    (start .pre)
+    (after-section .section .ensures .0)
+    (after-count .count .ensures .0)
+    (keep (elsewhere 4 (start .args .parent)))
     (keep-most _)
-    (c .before .before .remove-parts .ensures .1)
-    (c .before .before .remove-parts .ensures .0)
+    (after-remove-parts .remove-parts .ensures .1)
+    (after-remove-parts .remove-parts .ensures .0)
 
 pub remove-parts-spec : {M : Type 1} → statement M
 remove-parts-spec =

@@ -10,10 +10,14 @@ above-requires : tie.Need-above-requires
 above-requires c κs = search needs
 
 add-result : tie.Need-add-result
-add-result c = omega (arith, limits (c .before .before .args .s) (c .before .before .pre .0))
+add-result c =
+    let start : tie.Start = search in
+    omega (arith, limits (start .args .s) (start .pre .0))
 
 returns : tie.Need-returns
-returns c = omega (arith, limits (c .before .before .args .s) (c .before .before .pre .0))
+returns c =
+    let start : tie.Start = search in
+    omega (arith, limits (start .args .s) (start .pre .0))
 
 pub section-spec : {M : Type 1} → statement M
 section-spec = tie.close (tie.spec above-requires add-result returns)

@@ -16,14 +16,18 @@ returns c = rw (← c .before .uses-block .ensures, c .if1 .taken)
 
 returns-2 : tie.Need-returns-2
 unfolding handInside
-returns-2 c = rw (← c .before .before .before .uses-block .ensures, c .before .before .if1 .left, le-ltb _ _ (c .if2 .taken))
+returns-2 c =
+    let (after-uses-block, else1) : tie.After-uses-block × tie.Else1 = search in
+    rw (← after-uses-block .uses-block .ensures, else1 .if1 .left, le-ltb _ _ (c .if2 .taken))
 
 count-requires : tie.Need-count-requires
 count-requires c κs = search needs
 
 returns-3 : tie.Need-returns-3
 unfolding handInside
-returns-3 c = rw (← c .before .before .before .before .before .uses-block .ensures, c .before .before .before .before .if1 .left, lt-ltb _ _ (c .before .before .if2 .left), c .before .count .ensures .0)
+returns-3 c =
+    let (after-uses-block, else1, else2) : tie.After-uses-block × tie.Else1 × tie.Else2 = search in
+    rw (← after-uses-block .uses-block .ensures, else1 .if1 .left, lt-ltb _ _ (else2 .if2 .left), c .before .count .ensures .0)
 
 pub hand-inside-spec : {M : Type 1} → statement M
 hand-inside-spec =

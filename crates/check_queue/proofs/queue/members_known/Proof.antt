@@ -36,7 +36,9 @@ add-ok : tie.Need-add-ok Inv-loop μ-loop
 add-ok c = omega arith
 
 shared-slice-read-ok : tie.Need-shared-slice-read-ok Inv-loop μ-loop
-shared-slice-read-ok c = omega (arith, length-queueOf (c .before .before .before .before .before .args .queue .now) (c .before .before .before .before .before .pre))
+shared-slice-read-ok c =
+    let start : tie.Start Inv-loop μ-loop = search in
+    omega (arith, length-queueOf (start .args .queue .now) (start .pre))
 
 cast-ok : tie.Need-cast-ok Inv-loop μ-loop
 cast-ok c = omega (arith, c .shared-slice-known2 .given (c .before .before .loop .i + 1))
@@ -48,10 +50,11 @@ loop-less : tie.Need-loop-less Inv-loop μ-loop
 loop-less c = omega arith
 
 loop-again : tie.Need-loop-again Inv-loop μ-loop
-loop-again c = (
-  omega arith,
-  known-more _ _ _ _ (omega (arith, length-queueOf (c .before .before .before .before .before .before .args .queue .now) (c .before .before .before .before .before .before .pre))) (c .before .before .before .loop .inv .1),
-)
+loop-again c =
+    let (start, at-loop) : tie.Start Inv-loop μ-loop × tie.At-loop Inv-loop μ-loop = search in (
+      omega arith,
+      known-more _ _ _ _ (omega (arith, length-queueOf (start .args .queue .now) (start .pre))) (at-loop .loop .inv .1),
+    )
 
 returns : tie.Need-returns Inv-loop μ-loop
 returns c =

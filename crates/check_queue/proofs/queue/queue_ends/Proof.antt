@@ -50,16 +50,18 @@ loop-less : tie.Need-loop-less Inv-loop μ-loop
 loop-less c = omega arith
 
 loop-again : tie.Need-loop-again Inv-loop μ-loop
-loop-again c = (
-  omega arith,
-  ended-more (leb (getD (c .before .before .before .before .before .before .args .queue .now) 0 0) (c .before .before .before .before .before .before .args .s .threads)) _ (ended (c .before .before .before .before .before .before .args .queue .now)) _ (c .before .before .before .loop .inv .1),
-)
+loop-again c =
+    let (start, at-loop) : tie.Start Inv-loop μ-loop × tie.At-loop Inv-loop μ-loop = search in (
+      omega arith,
+      ended-more (leb (getD (start .args .queue .now) 0 0) (start .args .s .threads)) _ (ended (start .args .queue .now)) _ (at-loop .loop .inv .1),
+    )
 
 returns : tie.Need-returns Inv-loop μ-loop
 unfolding queueEnds
 returns c =
-    c .before .before .loop .inv .1
-    ∙ ap (λ (b : Bool). leb (getD (c .before .before .before .before .before .args .queue .now) 0 0) (c .before .before .before .before .before .args .s .threads) && b) (every-upto _ _ _ (omega arith))
+    let (start, at-loop) : tie.Start Inv-loop μ-loop × tie.At-loop Inv-loop μ-loop = search in
+    at-loop .loop .inv .1
+    ∙ ap (λ (b : Bool). leb (getD (start .args .queue .now) 0 0) (start .args .s .threads) && b) (every-upto _ _ _ (omega arith))
 
 pub queue-ends-spec : {M : Type 1} → statement M
 queue-ends-spec =

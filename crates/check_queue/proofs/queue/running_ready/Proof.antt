@@ -25,7 +25,9 @@ call-of-requires c κs = search needs
 
 returns-3 : tie.Need-returns-3
 unfolding runningReady
-returns-3 c = rw (ne-eqb _ _ (c .before .before .before .before .if1 .left), le-leb _ _ (c .before .before .if2 .left), c .before .call-of .ensures)
+returns-3 c =
+    let (else1, else2) : tie.Else1 × tie.Else2 = search in
+    rw (ne-eqb _ _ (else1 .if1 .left), le-leb _ _ (else2 .if2 .left), c .before .call-of .ensures)
 
 pub running-ready-spec : {M : Type 1} → statement M
 running-ready-spec =

@@ -45,7 +45,9 @@ add-found : tie.Need-add-found Inv-loop μ-loop
 add-found c = omega arith
 
 shared-slice-read-found : tie.Need-shared-slice-read-found Inv-loop μ-loop
-shared-slice-read-found c = omega (arith, length-queueOf (c .before .before .before .before .before .args .queue .now) (c .before .before .before .before .before .pre))
+shared-slice-read-found c =
+    let start : tie.Start Inv-loop μ-loop = search in
+    omega (arith, length-queueOf (start .args .queue .now) (start .pre))
 
 cast-found : tie.Need-cast-found Inv-loop μ-loop
 cast-found c = omega (arith, c .shared-slice-known2 .given (c .before .before .loop .i + 1))
@@ -54,7 +56,9 @@ cast-found-2 : tie.Need-cast-found-2 Inv-loop μ-loop
 cast-found-2 c = tt
 
 add-found-2 : tie.Need-add-found-2 Inv-loop μ-loop
-add-found-2 c = omega (arith, bit-most (eqb (c .before .before .before .before .before .args .thread) (getD (c .before .before .before .before .before .args .queue .now) (c .before .before .loop .i + 1) 0)))
+add-found-2 c =
+    let (start, at-loop) : tie.Start Inv-loop μ-loop × tie.At-loop Inv-loop μ-loop = search in
+    omega (arith, bit-most (eqb (start .args .thread) (getD (start .args .queue .now) (at-loop .loop .i + 1) 0)))
 
 add-i : tie.Need-add-i Inv-loop μ-loop
 add-i c = omega arith
@@ -63,15 +67,17 @@ loop-less : tie.Need-loop-less Inv-loop μ-loop
 loop-less c = omega arith
 
 loop-again : tie.Need-loop-again Inv-loop μ-loop
-loop-again c = (
-  omega arith,
-  omega (arith, bit-most (eqb (c .before .before .before .before .before .args .thread) (getD (c .before .before .before .before .before .args .queue .now) (c .before .before .loop .i + 1) 0))),
-  counted _ (c .before .before .before .before .before .args .queue .now) (c .before .before .loop .i) _ (c .before .before .before .before .before .pre) (omega (arith, length-queueOf (c .before .before .before .before .before .args .queue .now) (c .before .before .before .before .before .pre))) (c .before .before .loop .inv .2),
-)
+loop-again c =
+    let (start, at-loop) : tie.Start Inv-loop μ-loop × tie.At-loop Inv-loop μ-loop = search in (
+      omega arith,
+      omega (arith, bit-most (eqb (start .args .thread) (getD (start .args .queue .now) (at-loop .loop .i + 1) 0))),
+      counted _ (start .args .queue .now) (at-loop .loop .i) _ (start .pre) (omega (arith, length-queueOf (start .args .queue .now) (start .pre))) (at-loop .loop .inv .2),
+    )
 
 returns : tie.Need-returns Inv-loop μ-loop
 returns c =
-    counted-all _ (c .before .before .before .before .args .queue .now) (c .before .loop .i) _ (omega arith) (c .before .loop .inv .2)
+    let start : tie.Start Inv-loop μ-loop = search in
+    counted-all _ (start .args .queue .now) (c .before .loop .i) _ (omega arith) (c .before .loop .inv .2)
 
 pub times-queued-spec : {M : Type 1} → statement M
 times-queued-spec =

@@ -23,7 +23,9 @@ call-of-requires : tie.Need-call-of-requires Inv-loop μ-loop
 call-of-requires c κs = omega arith
 
 times-queued-requires : tie.Need-times-queued-requires Inv-loop μ-loop
-times-queued-requires c κs = c .before .before .before .before .before .before .pre .1
+times-queued-requires c κs =
+    let start : tie.Start Inv-loop μ-loop = search in
+    start .pre .1
 
 cast-ok : tie.Need-cast-ok Inv-loop μ-loop
 cast-ok c = tt
@@ -35,10 +37,11 @@ loop-less : tie.Need-loop-less Inv-loop μ-loop
 loop-less c = omega arith
 
 loop-again : tie.Need-loop-again Inv-loop μ-loop
-loop-again c = (
-  omega arith,
-  rw (every-more, ← c .before .call-of .ensures, ← c .times-queued .ensures, c .before .before .before .before .loop .inv .1),
-)
+loop-again c =
+    let at-loop : tie.At-loop Inv-loop μ-loop = search in (
+      omega arith,
+      rw (every-more, ← c .before .call-of .ensures, ← c .times-queued .ensures, at-loop .loop .inv .1),
+    )
 
 returns : tie.Need-returns Inv-loop μ-loop
 returns c =

@@ -49,12 +49,13 @@ shared-slice-read-t11 c = search needs
 
 returns-2 : tie.Need-returns-2
 returns-2 c =
-    inside _ (c .before .before .before .before .before .before .before .before .args .states .now) _ _ _ _ _ _
-    (c .before .before .before .before .before .before .bytes .ensures)
-    (c .before .before .before .before .before .if1 .left)
-    (c .before .before .before .before .cover-level .ensures .0)
-    (c .before .before .before .block-over .ensures .0)
-    (c .before .before .id .ensures)
+    let (start, after-bytes, else1, after-cover-level, after-block-over, after-id) : tie.Start × tie.After-bytes × tie.Else1 × tie.After-cover-level × tie.After-block-over × tie.After-id = search in
+    inside _ (start .args .states .now) _ _ _ _ _ _
+    (after-bytes .bytes .ensures)
+    (else1 .if1 .left)
+    (after-cover-level .cover-level .ensures .0)
+    (after-block-over .block-over .ensures .0)
+    (after-id .id .ensures)
     (c .before .place .ensures .0)
 
 pub cover-at-spec : {M : Type 1} → statement M

@@ -34,31 +34,40 @@ abbrev μ-loop : tie.MeasureT-loop
 μ-loop s states x level₀ level = level
 
 sub-level : tie.Need-sub-level Inv-loop μ-loop
-sub-level c = omega (arith, limits (c .before .before .args .s) (c .before .before .pre .0))
+sub-level c =
+    let start : tie.Start Inv-loop μ-loop = search in
+    omega (arith, limits (start .args .s) (start .pre .0))
 
 loop-holds : tie.Need-loop-holds Inv-loop μ-loop
-loop-holds c = (omega (arith, limits (c .before .before .args .s) (c .before .before .pre .0)), refl)
+loop-holds c =
+    let start : tie.Start Inv-loop μ-loop = search in
+    (omega (arith, limits (start .args .s) (start .pre .0)), refl)
 
 block-over-requires : tie.Need-block-over-requires Inv-loop μ-loop
-block-over-requires c κs = (c .before .before .before .before .pre .0, c .before .before .before .before .pre .2, omega arith)
+block-over-requires c κs =
+    let start : tie.Start Inv-loop μ-loop = search in
+    (start .pre .0, start .pre .2, omega arith)
 
 place-requires : tie.Need-place-requires Inv-loop μ-loop
-place-requires c κs = (c .before .before .before .before .before .pre .0, omega arith, c .block-over .ensures .1)
+place-requires c κs =
+    let start : tie.Start Inv-loop μ-loop = search in
+    (start .pre .0, omega arith, c .block-over .ensures .1)
 
 shared-slice-read-state : tie.Need-shared-slice-read-state Inv-loop μ-loop
 shared-slice-read-state c = omega arith
 
 returns : tie.Need-returns Inv-loop μ-loop
-returns c = (
-  sym
-      (c .before .before .before .before .before .loop .inv .1
-      ∙ step _ (c .before .before .before .before .before .before .before .before .args .states .now) _ _ _ _ true
-      (omega arith)
-      (c .before .before .before .block-over .ensures .0)
-      (c .before .before .place .ensures .0)
-      (c .if1 .taken)),
-  omega arith,
-)
+returns c =
+    let (start, at-loop, after-block-over, after-place) : tie.Start Inv-loop μ-loop × tie.At-loop Inv-loop μ-loop × tie.After-block-over Inv-loop μ-loop × tie.After-place Inv-loop μ-loop = search in (
+      sym
+          (at-loop .loop .inv .1
+          ∙ step _ (start .args .states .now) _ _ _ _ true
+          (omega arith)
+          (after-block-over .block-over .ensures .0)
+          (after-place .place .ensures .0)
+          (c .if1 .taken)),
+      omega arith,
+    )
 
 sub-level-2 : tie.Need-sub-level-2 Inv-loop μ-loop
 sub-level-2 c = omega arith
@@ -67,21 +76,23 @@ loop-less : tie.Need-loop-less Inv-loop μ-loop
 loop-less c = omega arith
 
 loop-again : tie.Need-loop-again Inv-loop μ-loop
-loop-again c = (
-  omega arith,
-  c .before .before .before .before .before .loop .inv .1
-      ∙ step _ (c .before .before .before .before .before .before .before .before .args .states .now) _ _ _ _ false
-      (omega arith)
-      (c .before .before .before .block-over .ensures .0)
-      (c .before .before .place .ensures .0)
-      (c .if1 .left),
-)
+loop-again c =
+    let (start, at-loop, after-block-over, after-place) : tie.Start Inv-loop μ-loop × tie.At-loop Inv-loop μ-loop × tie.After-block-over Inv-loop μ-loop × tie.After-place Inv-loop μ-loop = search in (
+      omega arith,
+      at-loop .loop .inv .1
+          ∙ step _ (start .args .states .now) _ _ _ _ false
+          (omega arith)
+          (after-block-over .block-over .ensures .0)
+          (after-place .place .ensures .0)
+          (c .if1 .left),
+    )
 
 returns-2 : tie.Need-returns-2 Inv-loop μ-loop
-returns-2 c = (
-  sym (c .before .loop .inv .1 ∙ top _ _ _ _ (omega arith)),
-  omega (arith, limits (c .before .before .before .before .args .s) (c .before .before .before .before .pre .0)),
-)
+returns-2 c =
+    let start : tie.Start Inv-loop μ-loop = search in (
+      sym (c .before .loop .inv .1 ∙ top _ _ _ _ (omega arith)),
+      omega (arith, limits (start .args .s) (start .pre .0)),
+    )
 
 pub cover-level-spec : {M : Type 1} → statement M
 cover-level-spec =

@@ -8,10 +8,14 @@ use Rattle.questions.proofs.map.list_pool.Statement.{statement}
 use Rattle.questions.proofs.map.list_pool.Tie as tie
 
 sub-list-parts : tie.Need-sub-list-parts
-sub-list-parts c = omega (arith, limits (c .before .before .before .before .args .s) (c .before .before .before .before .pre .0))
+sub-list-parts c =
+    let start : tie.Start = search in
+    omega (arith, limits (start .args .s) (start .pre .0))
 
 list-parts-requires : tie.Need-list-parts-requires
-list-parts-requires c κs = pool-listable _ _ (c .before .before .before .before .pre .0) (c .before .before .before .before .pre .1)
+list-parts-requires c κs =
+    let start : tie.Start = search in
+    pool-listable _ _ (start .pre .0) (start .pre .1)
 
 same-length : tie.Need-same-length
 same-length c = search needs

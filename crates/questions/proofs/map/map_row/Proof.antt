@@ -9,10 +9,14 @@ use Rattle.questions.proofs.map.map_row.Statement.{statement}
 use Rattle.questions.proofs.map.map_row.Tie as tie
 
 sub-count : tie.Need-sub-count
-sub-count c = omega (arith, limits _ (c .before .before .before .pre .0) .levels .0)
+sub-count c =
+    let start : tie.Start = search in
+    omega (arith, limits _ (start .pre .0) .levels .0)
 
 count-requires : tie.Need-count-requires
-count-requires c κs = (c .before .before .before .pre .0, omega (arith, limits _ (c .before .before .before .pre .0) .levels .0))
+count-requires c κs =
+    let start : tie.Start = search in
+    (start .pre .0, omega (arith, limits _ (start .pre .0) .levels .0))
 
 list-pool-requires : tie.Need-list-pool-requires
 list-pool-requires c κs = search needs
@@ -21,7 +25,9 @@ same-length : tie.Need-same-length
 same-length c = search needs
 
 returns : tie.Need-returns
-returns c = mapped _ _ (omega (arith, roomy (c .before .before .before .before .before .before .before .before .before .args .s) (c .before .before .before .before .before .before .before .before .before .args .states .now), c .before .before .before .before .before .count .ensures .0, c .before .before .before .before .if1 .taken)) (c .before .before .list-pool .ensures)
+returns c =
+    let (start, after-count, then1, after-list-pool) : tie.Start × tie.After-count × tie.Then1 × tie.After-list-pool = search in
+    mapped _ _ (omega (arith, roomy (start .args .s) (start .args .states .now), after-count .count .ensures .0, then1 .if1 .taken)) (after-list-pool .list-pool .ensures)
 
 slice-relend-prefix-list-pool : tie.Need-slice-relend-prefix-list-pool
 slice-relend-prefix-list-pool c = search needs
@@ -36,7 +42,9 @@ same-length-2 : tie.Need-same-length-2
 same-length-2 c = search needs
 
 returns-2 : tie.Need-returns-2
-returns-2 c = too-short _ _ _ _ _ (c .before .before .before .list-pool2 .ensures) (c .if2 .taken)
+returns-2 c =
+    let after-list-pool2 : tie.After-list-pool2 = search in
+    too-short _ _ _ _ _ (after-list-pool2 .list-pool2 .ensures) (c .if2 .taken)
 
 list-pool-requires-3 : tie.Need-list-pool-requires-3
 list-pool-requires-3 c κs = search needs
@@ -45,7 +53,9 @@ same-length-3 : tie.Need-same-length-3
 same-length-3 c = search needs
 
 returns-3 : tie.Need-returns-3
-returns-3 c = counted-first _ _ _ _ _ (c .before .before .before .before .before .before .before .list-pool2 .ensures) (c .before .before .before .before .if2 .left) (c .before .before .list-pool3 .ensures)
+returns-3 c =
+    let (after-list-pool2, else2, after-list-pool3) : tie.After-list-pool2 × tie.Else2 × tie.After-list-pool3 = search in
+    counted-first _ _ _ _ _ (after-list-pool2 .list-pool2 .ensures) (else2 .if2 .left) (after-list-pool3 .list-pool3 .ensures)
 
 pub map-row-spec : {M : Type 1} → statement M
 map-row-spec =

@@ -13,7 +13,8 @@ use Rattle.questions.proofs.whole.is_whole.Tie as tie
 
 tops-free-requires : tie.Need-tops-free-requires
 tops-free-requires c κs =
-    omega (arith, blocks-parts (c .before .before .args .s) (limits _ (c .before .before .pre .0) .levels .0))
+    let start : tie.Start = search in
+    omega (arith, blocks-parts (start .args .s) (limits _ (start .pre .0) .levels .0))
 
 none-open-requires : tie.Need-none-open-requires
 none-open-requires c κs = search needs

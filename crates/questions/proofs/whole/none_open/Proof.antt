@@ -31,10 +31,11 @@ loop-less : tie.Need-loop-less Inv-loop μ-loop
 loop-less c = omega arith
 
 loop-again : tie.Need-loop-again Inv-loop μ-loop
-loop-again c = (
-  omega arith,
-  more _ _ _ _ (c .before .before .before .loop .inv .1) (ap (λ (call : Call). eqb (call .stage) CLOSED) (c .before .call-of .ensures)),
-)
+loop-again c =
+    let at-loop : tie.At-loop Inv-loop μ-loop = search in (
+      omega arith,
+      more _ _ _ _ (at-loop .loop .inv .1) (ap (λ (call : Call). eqb (call .stage) CLOSED) (c .before .call-of .ensures)),
+    )
 
 returns : tie.Need-returns Inv-loop μ-loop
 returns c = all _ _ _ _ (omega arith) (omega arith) (c .before .loop .inv .1)

@@ -20,17 +20,25 @@ blocks-requires : tie.Need-blocks-requires
 blocks-requires c κs = sym (c .before .allowed .ensures) ∙ not-false (c .before .allowed .result) (c .if1 .left)
 
 add-t5 : tie.Need-add-t5
-add-t5 c = omega (arith, limits (c .before .before .before .before .args .s) (sym (c .before .before .before .allowed .ensures) ∙ not-false (c .before .before .before .allowed .result) (c .before .before .if1 .left)))
+add-t5 c =
+    let (start, after-allowed, else1) : tie.Start × tie.After-allowed × tie.Else1 = search in
+    omega (arith, limits (start .args .s) (sym (after-allowed .allowed .ensures) ∙ not-false (after-allowed .allowed .result) (else1 .if1 .left)))
 
 mul-t6 : tie.Need-mul-t6
-mul-t6 c = omega (arith, limits (c .before .before .before .before .before .args .s) (sym (c .before .before .before .before .allowed .ensures) ∙ not-false (c .before .before .before .before .allowed .result) (c .before .before .before .if1 .left)))
+mul-t6 c =
+    let (start, after-allowed, else1) : tie.Start × tie.After-allowed × tie.Else1 = search in
+    omega (arith, limits (start .args .s) (sym (after-allowed .allowed .ensures) ∙ not-false (after-allowed .allowed .result) (else1 .if1 .left)))
 
 add-t7 : tie.Need-add-t7
-add-t7 c = omega (arith, limits (c .before .before .before .before .before .before .args .s) (sym (c .before .before .before .before .before .allowed .ensures) ∙ not-false (c .before .before .before .before .before .allowed .result) (c .before .before .before .before .if1 .left)))
+add-t7 c =
+    let (start, after-allowed, else1) : tie.Start × tie.After-allowed × tie.Else1 = search in
+    omega (arith, limits (start .args .s) (sym (after-allowed .allowed .ensures) ∙ not-false (after-allowed .allowed .result) (else1 .if1 .left)))
 
 returns-2 : tie.Need-returns-2
 unfolding tableLengths
-returns-2 c = rw (← c .before .before .before .before .before .allowed .ensures, not-false (c .before .before .before .before .before .allowed .result) (c .before .before .before .before .if1 .left), ← c .before .before .before .blocks2 .ensures .0)
+returns-2 c =
+    let (after-allowed, else1, after-blocks2) : tie.After-allowed × tie.Else1 × tie.After-blocks2 = search in
+    rw (← after-allowed .allowed .ensures, not-false (after-allowed .allowed .result) (else1 .if1 .left), ← after-blocks2 .blocks2 .ensures .0)
 
 pub lengths-of-spec : {M : Type 1} → statement M
 lengths-of-spec =

@@ -8,11 +8,15 @@ use native.Mathlib.Omega.{arith}
 
 returns : tie.Need-returns
 unfolding framed
-returns c = rw (past-cut (c .before .before .args .script .now) (c .before .before .args .at) (omega arith))
+returns c =
+    let start : tie.Start = search in
+    rw (past-cut (start .args .script .now) (start .args .at) (omega arith))
 
 returns-2 : tie.Need-returns-2
 unfolding framed
-returns-2 c = rw (past-cut (c .before .before .before .args .script .now) (c .before .before .before .args .at) (omega arith))
+returns-2 c =
+    let start : tie.Start = search in
+    rw (past-cut (start .args .script .now) (start .args .at) (omega arith))
 
 add-start : tie.Need-add-start
 add-start c = search needs
@@ -28,7 +32,9 @@ sub-if3 c = search needs
 
 returns-3 : tie.Need-returns-3
 unfolding framed
-returns-3 c = rw (past-cut (c .before .before .before .before .before .args .script .now) (c .before .before .before .before .before .args .at) (omega (arith, c .before .number-at .ensures .0)))
+returns-3 c =
+    let start : tie.Start = search in
+    rw (past-cut (start .args .script .now) (start .args .at) (omega (arith, c .before .number-at .ensures .0)))
 
 shared-slice-read-t9 : tie.Need-shared-slice-read-t9
 shared-slice-read-t9 c = search needs
@@ -38,7 +44,9 @@ add-t7 c = search needs
 
 returns-4 : tie.Need-returns-4
 unfolding framed
-returns-4 c = rw (within-uncut (c .before .before .before .before .before .before .args .script .now) (c .before .before .before .before .before .before .args .at) (omega (arith, c .before .before .number-at .ensures .0)), c .before .before .number-at .ensures .0)
+returns-4 c =
+    let (start, after-number-at) : tie.Start × tie.After-number-at = search in
+    rw (within-uncut (start .args .script .now) (start .args .at) (omega (arith, after-number-at .number-at .ensures .0)), after-number-at .number-at .ensures .0)
 
 pub field-at-spec : {M : Type 1} → statement M
 field-at-spec =

@@ -24,7 +24,9 @@ sub-left : tie.Need-sub-left Inv-loop μ-loop
 sub-left c = omega arith
 
 mul-sum : tie.Need-mul-sum Inv-loop μ-loop
-mul-sum c = omega (arith, above-most (length (c .before .before .args .bytes .now)) (c .before .loop .left) 3 (omega arith))
+mul-sum c =
+    let start : tie.Start Inv-loop μ-loop = search in
+    omega (arith, above-most (length (start .args .bytes .now)) (c .before .loop .left) 3 (omega arith))
 
 shared-slice-read-sum : tie.Need-shared-slice-read-sum Inv-loop μ-loop
 shared-slice-read-sum c = omega arith
@@ -33,24 +35,28 @@ cast-sum : tie.Need-cast-sum Inv-loop μ-loop
 cast-sum c = omega (arith, c .shared-slice-known .given (c .before .before .loop .left - 1))
 
 add-sum : tie.Need-add-sum Inv-loop μ-loop
-add-sum c = omega (arith, above-most (length (c .before .before .before .args .bytes .now)) (c .before .before .loop .left) 3 (omega arith), c .shared-slice-known .given (c .before .before .loop .left - 1))
+add-sum c =
+    let (start, at-loop) : tie.Start Inv-loop μ-loop × tie.At-loop Inv-loop μ-loop = search in
+    omega (arith, above-most (length (start .args .bytes .now)) (at-loop .loop .left) 3 (omega arith), c .shared-slice-known .given (at-loop .loop .left - 1))
 
 loop-less : tie.Need-loop-less Inv-loop μ-loop
 loop-less c = omega arith
 
 loop-again : tie.Need-loop-again Inv-loop μ-loop
 loop-again c =
-    let i = c .before .before .loop .left in
-    let xs = c .before .before .before .args .bytes .now in (
+    let (start, at-loop) : tie.Start Inv-loop μ-loop × tie.At-loop Inv-loop μ-loop = search in
+    let i = at-loop .loop .left in
+    let xs = start .args .bytes .now in (
       omega arith,
-      rw (c .before .before .loop .inv .1) (little-down xs i (omega arith) (omega arith)),
+      rw (at-loop .loop .inv .1) (little-down xs i (omega arith) (omega arith)),
       omega (arith, above-more (length xs) i (omega arith) (omega arith), c .shared-slice-known .given (i - 1)),
     )
 
 returns : tie.Need-returns Inv-loop μ-loop
 returns c =
+    let start : tie.Start Inv-loop μ-loop = search in
     let e : c .before .loop .left ≡ 0 = omega arith in
-    (rw e at (c .before .loop .inv .1), omega (arith, above-most (length (c .before .before .args .bytes .now)) (c .before .loop .left) 4 (omega arith)))
+    (rw e at (c .before .loop .inv .1), omega (arith, above-most (length (start .args .bytes .now)) (c .before .loop .left) 4 (omega arith)))
 
 pub number-spec : {M : Type 1} → statement M
 number-spec =

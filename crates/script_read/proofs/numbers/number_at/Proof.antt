@@ -24,7 +24,8 @@ number-requires c κs = search needs
 
 returns : tie.Need-returns
 returns c =
-    let e : c .before .before .before .args .at + c .before .before .before .args .count - c .before .before .before .args .at ≡ c .before .before .before .args .count = omega arith in
+    let start : tie.Start = search in
+    let e : start .args .at + start .args .count - start .args .at ≡ start .args .count = omega arith in
     (rw e at (c .number .ensures .0), c .number .ensures .1)
 
 pub number-at-spec : {M : Type 1} → statement M

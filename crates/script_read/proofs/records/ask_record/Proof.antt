@@ -20,7 +20,9 @@ signed-requires c κs = search needs
 
 returns : tie.Need-returns
 unfolding decode
-returns c = rw (c .signed .ensures, c .before .before .before .number-at .ensures .0, c .before .before .number-at2 .ensures .0, c .before .number-at3 .ensures .0, signed-back, c .before .before .before .before .before .pre)
+returns c =
+    let (start, after-number-at, after-number-at2) : tie.Start × tie.After-number-at × tie.After-number-at2 = search in
+    rw (c .signed .ensures, after-number-at .number-at .ensures .0, after-number-at2 .number-at2 .ensures .0, c .before .number-at3 .ensures .0, signed-back, start .pre)
 
 pub ask-record-spec : {M : Type 1} → statement M
 ask-record-spec =

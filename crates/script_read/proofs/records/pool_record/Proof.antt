@@ -22,7 +22,9 @@ number-at-requires-5 c κs = search needs
 
 returns : tie.Need-returns
 unfolding decode
-returns c = rw (c .before .before .before .before .number-at .ensures .0, c .before .before .before .number-at2 .ensures .0, c .before .before .number-at3 .ensures .0, c .before .number-at4 .ensures .0, c .number-at5 .ensures .0, c .before .before .before .before .before .before .pre)
+returns c =
+    let (start, after-number-at, after-number-at2, after-number-at3) : tie.Start × tie.After-number-at × tie.After-number-at2 × tie.After-number-at3 = search in
+    rw (after-number-at .number-at .ensures .0, after-number-at2 .number-at2 .ensures .0, after-number-at3 .number-at3 .ensures .0, c .before .number-at4 .ensures .0, c .number-at5 .ensures .0, start .pre)
 
 pub pool-record-spec : {M : Type 1} → statement M
 pool-record-spec =

@@ -17,7 +17,17 @@ put-line-requires c κs = search needs
 
 run-rest-requires : tie.Need-run-rest-requires
 unfolding fresh
-run-rest-requires c κs = begins (c .before .before .before .before .before .before .before .before .before .before .before .before .before .before .before .before .before .before .before .before .before .before .before .before .before .before .before .before .before .before .before .before .before .before .pre .headed) (c .before .before .before .before .before .before .before .before .before .before .before .before .before .before .before .before .before .before .before .before .make-fresh .ensures) (c .before .before .before .before .before .before .before .before .before .before .before .before .before .before .before .before .before .before .before .before .before .before .before .before .before .before .before .before .before .before .before .before .before .before .pre .shape) (c .before .before .before .before .before .before .before .before .put-line .ensures)
+run-rest-requires c κs =
+    begins (start .pre .headed) (after-make-fresh .make-fresh .ensures) (start .pre .shape) (after-put-line .put-line .ensures)
+  where
+    start : tie.Start
+    start = search
+
+    after-make-fresh : tie.After-make-fresh
+    after-make-fresh = search
+
+    after-put-line : tie.After-put-line
+    after-put-line = search
 
 same-length : tie.Need-same-length
 same-length c = search needs
@@ -39,7 +49,20 @@ same-length-6 c = search needs
 
 returns : tie.Need-returns
 unfolding fresh
-returns c = listed-built (c .before .before .before .before .before .before .before .before .before .before .before .before .before .before .before .before .before .before .before .before .before .before .before .before .before .before .before .before .before .before .before .before .before .before .before .before .before .before .before .before .before .before .before .before .before .before .before .pre .headed) (c .before .before .before .before .before .before .before .before .before .before .before .before .before .before .before .before .before .before .before .before .before .before .before .before .before .before .before .before .before .before .before .before .before .make-fresh .ensures) (c .before .before .before .before .before .before .before .before .before .before .before .before .before .before .before .before .before .before .before .before .before .before .before .before .before .before .before .before .before .before .before .before .before .before .before .before .before .before .before .before .before .before .before .before .before .before .before .pre .shape) (c .before .before .before .before .before .before .before .before .before .before .before .before .before .before .before .before .before .before .before .before .before .put-line .ensures) (c .before .before .before .before .before .before .before .before .before .before .before .before .run-rest .ensures)
+returns c =
+    listed-built (start .pre .headed) (after-make-fresh .make-fresh .ensures) (start .pre .shape) (after-put-line .put-line .ensures) (after-run-rest .run-rest .ensures)
+  where
+    start : tie.Start
+    start = c .before .before .before .before .before .before .before .before .before .before .before .before .before .before .before .before .before .before .before .before .before .before .before .before .before .before .before .before .before .before .before .before .before .before .before .before .before .before .before .before .before .before .before .before .before .before .before
+
+    after-make-fresh : tie.After-make-fresh
+    after-make-fresh = search
+
+    after-put-line : tie.After-put-line
+    after-put-line = search
+
+    after-run-rest : tie.After-run-rest
+    after-run-rest = search
 
 pub run-built-spec : {M : Type 1} → statement M
 run-built-spec =

@@ -12,7 +12,9 @@ returns : tie.Need-returns
 returns c = fails _ (λ e. omega (arith, limits (c .before .args .self) e))
 
 returns-2 : tie.Need-returns-2
-returns-2 c = fails _ (λ e. omega (arith, limits (c .before .before .args .self) e))
+returns-2 c =
+    let start : tie.Start = search in
+    fails _ (λ e. omega (arith, limits (start .args .self) e))
 
 power-requires : tie.Need-power-requires
 power-requires c κs = search needs
@@ -25,7 +27,9 @@ rem-result c = search needs
 
 returns-3 : tie.Need-returns-3
 unfolding allowed unit
-returns-3 c = rw (c .before .before .before .before .before .before .before .before .power .ensures .0)
+returns-3 c =
+    let after-power : tie.After-power = search in
+    rw (after-power .power .ensures .0)
 
 pub allowed-spec : {M : Type 1} → statement M
 allowed-spec = tie.close (tie.spec returns returns-2 power-requires mul-unit rem-result returns-3)

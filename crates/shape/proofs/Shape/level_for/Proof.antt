@@ -46,16 +46,19 @@ unfolding levelFor
 loop-holds c = (omega (arith, limits (c .before .args .self) (c .before .pre)), refl)
 
 size-requires : tie.Need-size-requires Inv-loop μ-loop
-size-requires c κs = omega (arith, limits (c .before .before .before .args .self) (c .before .before .before .pre))
+size-requires c κs =
+    let start : tie.Start Inv-loop μ-loop = search in
+    omega (arith, limits (start .args .self) (start .pre))
 
 returns : tie.Need-returns Inv-loop μ-loop
 returns c =
+    let (start, at-loop) : tie.Start Inv-loop μ-loop × tie.At-loop Inv-loop μ-loop = search in
     sym
-    (c .before .before .before .loop .inv .1
+    (at-loop .loop .inv .1
     ∙ here
-    (c .before .before .before .before .before .args .self)
-    (c .before .before .before .loop .level)
-    (c .before .before .before .before .before .args .request)
+    (start .args .self)
+    (at-loop .loop .level)
+    (start .args .request)
     (omega arith)
     (rw (← c .before .size .ensures) (c .if1 .taken)))
 
@@ -66,22 +69,24 @@ loop-less : tie.Need-loop-less Inv-loop μ-loop
 loop-less c = omega arith
 
 loop-again : tie.Need-loop-again Inv-loop μ-loop
-loop-again c = (
-  omega arith,
-  c .before .before .before .loop .inv .1
-      ∙ higher
-      (c .before .before .before .before .before .args .self)
-      (c .before .before .before .loop .level)
-      (c .before .before .before .before .before .args .request)
-      (omega arith)
-      (rw (← c .before .size .ensures) (c .if1 .left)),
-)
+loop-again c =
+    let (start, at-loop) : tie.Start Inv-loop μ-loop × tie.At-loop Inv-loop μ-loop = search in (
+      omega arith,
+      at-loop .loop .inv .1
+          ∙ higher
+          (start .args .self)
+          (at-loop .loop .level)
+          (start .args .request)
+          (omega arith)
+          (rw (← c .before .size .ensures) (c .if1 .left)),
+    )
 
 returns-2 : tie.Need-returns-2 Inv-loop μ-loop
 returns-2 c =
+    let start : tie.Start Inv-loop μ-loop = search in
     sym
     (c .before .loop .inv .1
-    ∙ top (c .before .before .before .args .self) (c .before .loop .level) (c .before .before .before .args .request) (omega arith))
+    ∙ top (start .args .self) (c .before .loop .level) (start .args .request) (omega arith))
 
 pub level-for-spec : {M : Type 1} → statement M
 level-for-spec =

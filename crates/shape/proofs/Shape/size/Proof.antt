@@ -15,7 +15,9 @@ div-result c = search needs
 
 returns : tie.Need-returns
 unfolding size
-returns c = ap (λ (n : ℕ). c .before .before .args .self .«top_size» / n) (c .before .power .ensures .0)
+returns c =
+    let start : tie.Start = search in
+    ap (λ (n : ℕ). start .args .self .«top_size» / n) (c .before .power .ensures .0)
 
 pub size-spec : {M : Type 1} → statement M
 size-spec = tie.close (tie.spec power-requires div-result returns)

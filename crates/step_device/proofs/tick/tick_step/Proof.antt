@@ -7,7 +7,9 @@ use Rattle.step_device.proofs.tick.tick_step.Statement.{statement}
 use Rattle.step_device.proofs.tick.tick_step.Tie as tie
 
 returns : tie.Need-returns
-returns c = λ s states owners lists h. clock-at-end s states owners lists (now (c .before .before .before .args .calls)) (now (c .before .before .before .args .queue)) (c .before .before .before .args .d) (c .if1 .taken)
+returns c =
+    let start : tie.Start = search in
+    λ s states owners lists h. clock-at-end s states owners lists (now (start .args .calls)) (now (start .args .queue)) (start .args .d) (c .if1 .taken)
 
 add-now : tie.Need-add-now
 add-now c = search needs
@@ -25,7 +27,9 @@ same-length-2 : tie.Need-same-length-2
 same-length-2 c = search needs
 
 returns-2 : tie.Need-returns-2
-returns-2 c = λ s states owners lists h. ticks s states owners lists (now (c .before .before .before .before .before .before .before .before .before .before .args .calls)) (now (c .before .before .before .before .before .before .before .before .before .before .args .queue)) (c .before .before .before .before .before .before .before .before .before .before .args .d) (c .before .before .before .before .before .before .before .if1 .left) (c .before .before .before .before .wake-due .ensures .awake) (c .before .before .before .before .wake-due .ensures .queued) (c .before .before .before .before .wake-due .ensures .number) h
+returns-2 c =
+    let (start, else1, after-wake-due) : tie.Start × tie.Else1 × tie.After-wake-due = search in
+    λ s states owners lists h. ticks s states owners lists (now (start .args .calls)) (now (start .args .queue)) (start .args .d) (else1 .if1 .left) (after-wake-due .wake-due .ensures .awake) (after-wake-due .wake-due .ensures .queued) (after-wake-due .wake-due .ensures .number) h
 
 pub tick-step-spec : {M : Type 1} → statement M
 tick-step-spec =

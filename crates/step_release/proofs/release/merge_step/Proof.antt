@@ -29,7 +29,9 @@ sub-id c = search needs
 
 id-requires : tie.Need-id-requires
 unfolding parts
-id-requires c κs = (c .before .before .before .before .before .before .before .before .before .before .before .before .before .before .before .before .pre .hand .shape, omega (arith, c .before .before .before .before .before .before .before .before .before .before .before .before .before .before .before .before .pre .hand .level), parent-inside (c .before .before .before .before .before .before .before .before .before .before .before .before .before .before .before .before .args .s) (c .before .before .before .before .before .before .before .before .before .before .before .before .before .before .before .before .args .c .level) (c .before .before .before .before .before .before .before .before .before .before .before .before .before .before .before .before .args .c .block) (c .before .before .before .before .before .before .before .before .before .before .before .before .before .before .before .before .pre .below) (c .before .before .before .before .before .before .before .before .before .before .before .before .before .before .before .before .pre .hand .block))
+id-requires c κs =
+    let start : tie.Start = search in
+    (start .pre .hand .shape, omega (arith, start .pre .hand .level), parent-inside (start .args .s) (start .args .c .level) (start .args .c .block) (start .pre .below) (start .pre .hand .block))
 
 same-length : tie.Need-same-length
 same-length c = search needs
@@ -43,9 +45,10 @@ same-length-3 c = search needs
 returns : tie.Need-returns
 unfolding parts
 returns c =
+    let (start, after-merge-states, after-remove-parts, after-holding, after-put-call) : tie.Start × tie.After-merge-states × tie.After-remove-parts × tie.After-holding × tie.After-put-call = search in
     λ owners queue d.
-    merged (c .before .before .before .before .before .before .before .before .before .before .before .before .before .before .before .before .before .args .s) (now (c .before .before .before .before .before .before .before .before .before .before .before .before .before .before .before .before .before .args .states)) owners (now (c .before .before .before .before .before .before .before .before .before .before .before .before .before .before .before .before .before .args .lists)) (now (c .before .before .before .before .before .before .before .before .before .before .before .before .before .before .before .before .before .args .calls)) queue d (c .before .before .before .before .before .before .before .before .before .before .before .before .before .before .before .before .before .args .t) (c .before .before .before .before .before .before .before .before .before .before .before .before .before .before .before .before .before .args .c)
-    (c .before .before .before .before .before .before .before .before .before .before .before .before .merge-states .ensures) (c .before .before .before .before .before .before .before .before .remove-parts .ensures) (c .before .before .before .put-call .ensures) (c .before .before .before .before .holding .ensures) (c .id .ensures)
+    merged (start .args .s) (now (start .args .states)) owners (now (start .args .lists)) (now (start .args .calls)) queue d (start .args .t) (start .args .c)
+    (after-merge-states .merge-states .ensures) (after-remove-parts .remove-parts .ensures) (after-put-call .put-call .ensures) (after-holding .holding .ensures) (c .id .ensures)
 
 pub merge-step-spec : {M : Type 1} → statement M
 merge-step-spec =

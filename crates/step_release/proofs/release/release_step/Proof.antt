@@ -12,7 +12,17 @@ merges-requires : tie.Need-merges-requires
 merges-requires c κs = search needs
 
 merge-step-requires : tie.Need-merge-step-requires
-merge-step-requires c κs = record { mine = c .before .before .before .before .before .before .before .before .before .before .pre .mine; hand = c .before .before .before .before .before .before .before .before .before .before .pre .hand; list = c .before .before .before .before .before .before .before .before .before .before .pre .list; below = merging-below (c .before .before .before .before .before .before .before .before .before .before .args .s) (now (c .before .before .before .before .before .before .before .before .before .before .args .states)) (c .before .before .before .before .before .before .before .before .before .before .args .c .level) (c .before .before .before .before .before .before .before .before .before .before .args .c .block) (sym (c .before .before .before .before .merges .ensures) ∙ c .before .before .before .if1 .taken) }
+merge-step-requires c κs =
+    record { mine = start .pre .mine; hand = start .pre .hand; list = start .pre .list; below = merging-below (start .args .s) (now (start .args .states)) (start .args .c .level) (start .args .c .block) (sym (after-merges .merges .ensures) ∙ then1 .if1 .taken) }
+  where
+    start : tie.Start
+    start = search
+
+    after-merges : tie.After-merges
+    after-merges = search
+
+    then1 : tie.Then1
+    then1 = search
 
 same-length : tie.Need-same-length
 same-length c = search needs
@@ -26,8 +36,20 @@ same-length-3 c = search needs
 returns : tie.Need-returns
 returns c =
     λ owners d.
-    with-buddies (c .before .before .before .before .before .before .before .before .before .before .before .before .before .before .before .before .before .args .s) (state (now (c .before .before .before .before .before .before .before .before .before .before .before .before .before .before .before .before .before .args .states)) owners (now (c .before .before .before .before .before .before .before .before .before .before .before .before .before .before .before .before .before .args .lists)) (now (c .before .before .before .before .before .before .before .before .before .before .before .before .before .before .before .before .before .args .calls)) (now (c .before .before .before .before .before .before .before .before .before .before .before .before .before .before .before .before .before .args .queue)) d) (c .before .before .before .before .before .before .before .before .before .before .before .before .before .before .before .before .before .args .t) (c .before .before .before .before .before .before .before .before .before .before .before .before .before .before .before .before .before .args .c)
-    (c .before .before .before .before .before .before .before .before .before .before .before .merges .ensures) (c .before .before .before .before .before .before .before .before .before .before .if1 .taken) (c .before .before .before .before .before .before .merge-step .ensures owners (now (c .before .before .before .before .before .before .before .before .before .before .before .before .before .before .before .before .before .args .queue)) d)
+    with-buddies (start .args .s) (state (now (start .args .states)) owners (now (start .args .lists)) (now (start .args .calls)) (now (start .args .queue)) d) (start .args .t) (start .args .c)
+    (after-merges .merges .ensures) (then1 .if1 .taken) (after-merge-step .merge-step .ensures owners (now (start .args .queue)) d)
+  where
+    start : tie.Start
+    start = search
+
+    after-merges : tie.After-merges
+    after-merges = search
+
+    then1 : tie.Then1
+    then1 = search
+
+    after-merge-step : tie.After-merge-step
+    after-merge-step = search
 
 settle-step-requires : tie.Need-settle-step-requires
 settle-step-requires c κs = search needs
@@ -47,8 +69,20 @@ same-length-7 c = search needs
 returns-2 : tie.Need-returns-2
 returns-2 c =
     λ owners d.
-    alone (c .before .before .before .before .before .before .before .before .before .before .before .before .before .before .before .before .before .before .before .before .args .s) (state (now (c .before .before .before .before .before .before .before .before .before .before .before .before .before .before .before .before .before .before .before .before .args .states)) owners (now (c .before .before .before .before .before .before .before .before .before .before .before .before .before .before .before .before .before .before .before .before .args .lists)) (now (c .before .before .before .before .before .before .before .before .before .before .before .before .before .before .before .before .before .before .before .before .args .calls)) (now (c .before .before .before .before .before .before .before .before .before .before .before .before .before .before .before .before .before .before .before .before .args .queue)) d) (c .before .before .before .before .before .before .before .before .before .before .before .before .before .before .before .before .before .before .before .before .args .t) (c .before .before .before .before .before .before .before .before .before .before .before .before .before .before .before .before .before .before .before .before .args .c)
-    (c .before .before .before .before .before .before .before .before .before .before .before .before .before .before .merges .ensures) (c .before .before .before .before .before .before .before .before .before .before .before .before .before .if1 .left) (c .before .before .before .before .before .before .before .before .settle-step .ensures owners d)
+    alone (start .args .s) (state (now (start .args .states)) owners (now (start .args .lists)) (now (start .args .calls)) (now (start .args .queue)) d) (start .args .t) (start .args .c)
+    (after-merges .merges .ensures) (else1 .if1 .left) (after-settle-step .settle-step .ensures owners d)
+  where
+    start : tie.Start
+    start = search
+
+    after-merges : tie.After-merges
+    after-merges = search
+
+    else1 : tie.Else1
+    else1 = search
+
+    after-settle-step : tie.After-settle-step
+    after-settle-step = search
 
 pub release-step-spec : {M : Type 1} → statement M
 release-step-spec =

@@ -13,7 +13,9 @@ level-for-requires : tie.Need-level-for-requires
 level-for-requires c κs = search needs
 
 split-step-requires : tie.Need-split-step-requires
-split-step-requires c κs = c .before .before .before .before .before .before .before .before .before .before .pre .splits (omega (arith, c .before .before .before .before .before .level-for .ensures, c .before .before .before .if1 .taken))
+split-step-requires c κs =
+    let (start, after-level-for, then1) : tie.Start × tie.After-level-for × tie.Then1 = search in
+    start .pre .splits (omega (arith, after-level-for .level-for .ensures, then1 .if1 .taken))
 
 same-length : tie.Need-same-length
 same-length c = search needs
@@ -27,8 +29,20 @@ same-length-3 c = search needs
 returns : tie.Need-returns
 returns c =
     λ queue d.
-    above-target (c .before .before .before .before .before .before .before .before .before .before .before .before .before .before .before .before .before .args .s) (state (now (c .before .before .before .before .before .before .before .before .before .before .before .before .before .before .before .before .before .args .states)) (now (c .before .before .before .before .before .before .before .before .before .before .before .before .before .before .before .before .before .args .owners)) (now (c .before .before .before .before .before .before .before .before .before .before .before .before .before .before .before .before .before .args .lists)) (now (c .before .before .before .before .before .before .before .before .before .before .before .before .before .before .before .before .before .args .calls)) queue d) (c .before .before .before .before .before .before .before .before .before .before .before .before .before .before .before .before .before .args .t) (c .before .before .before .before .before .before .before .before .before .before .before .before .before .before .before .before .before .args .c)
-    (c .before .before .before .before .before .before .before .before .before .before .before .before .level-for .ensures) (c .before .before .before .before .before .before .before .before .before .before .if1 .taken) (c .before .before .before .before .before .before .split-step .ensures (now (c .before .before .before .before .before .before .before .before .before .before .before .before .before .before .before .before .before .args .owners)) queue d)
+    above-target (start .args .s) (state (now (start .args .states)) (now (start .args .owners)) (now (start .args .lists)) (now (start .args .calls)) queue d) (start .args .t) (start .args .c)
+    (after-level-for .level-for .ensures) (then1 .if1 .taken) (after-split-step .split-step .ensures (now (start .args .owners)) queue d)
+  where
+    start : tie.Start
+    start = search
+
+    after-level-for : tie.After-level-for
+    after-level-for = search
+
+    then1 : tie.Then1
+    then1 = search
+
+    after-split-step : tie.After-split-step
+    after-split-step = search
 
 grant-step-requires : tie.Need-grant-step-requires
 grant-step-requires c κs = search needs
@@ -45,8 +59,20 @@ same-length-6 c = search needs
 returns-2 : tie.Need-returns-2
 returns-2 c =
     λ queue d.
-    at-target (c .before .before .before .before .before .before .before .before .before .before .before .before .before .before .before .before .before .args .s) (state (now (c .before .before .before .before .before .before .before .before .before .before .before .before .before .before .before .before .before .args .states)) (now (c .before .before .before .before .before .before .before .before .before .before .before .before .before .before .before .before .before .args .owners)) (now (c .before .before .before .before .before .before .before .before .before .before .before .before .before .before .before .before .before .args .lists)) (now (c .before .before .before .before .before .before .before .before .before .before .before .before .before .before .before .before .before .args .calls)) queue d) (c .before .before .before .before .before .before .before .before .before .before .before .before .before .before .before .before .before .args .t) (c .before .before .before .before .before .before .before .before .before .before .before .before .before .before .before .before .before .args .c)
-    (c .before .before .before .before .before .before .before .before .before .before .before .before .level-for .ensures) (c .before .before .before .before .before .before .before .before .before .before .if1 .left) (c .before .before .before .before .before .before .grant-step .ensures (now (c .before .before .before .before .before .before .before .before .before .before .before .before .before .before .before .before .before .args .lists)) queue d)
+    at-target (start .args .s) (state (now (start .args .states)) (now (start .args .owners)) (now (start .args .lists)) (now (start .args .calls)) queue d) (start .args .t) (start .args .c)
+    (after-level-for .level-for .ensures) (else1 .if1 .left) (after-grant-step .grant-step .ensures (now (start .args .lists)) queue d)
+  where
+    start : tie.Start
+    start = search
+
+    after-level-for : tie.After-level-for
+    after-level-for = search
+
+    else1 : tie.Else1
+    else1 = search
+
+    after-grant-step : tie.After-grant-step
+    after-grant-step = search
 
 pub divide-step-spec : {M : Type 1} → statement M
 divide-step-spec =

@@ -38,9 +38,10 @@ same-length-3 c = search needs
 
 returns : tie.Need-returns
 returns c =
+    let (start, after-put-state, after-put-state2, after-closed, after-put-call) : tie.Start × tie.After-put-state × tie.After-put-state2 × tie.After-closed × tie.After-put-call = search in
     λ lists queue d.
-    grants (c .before .before .before .before .before .before .before .before .before .before .before .before .before .before .before .before .before .args .s) (now (c .before .before .before .before .before .before .before .before .before .before .before .before .before .before .before .before .before .args .states)) (now (c .before .before .before .before .before .before .before .before .before .before .before .before .before .before .before .before .before .args .owners)) lists (now (c .before .before .before .before .before .before .before .before .before .before .before .before .before .before .before .before .before .args .calls)) queue d (c .before .before .before .before .before .before .before .before .before .before .before .before .before .before .before .before .before .args .t) (c .before .before .before .before .before .before .before .before .before .before .before .before .before .before .before .before .before .args .c)
-    (c .before .before .before .before .before .before .before .before .before .before .before .before .put-state .ensures) (c .before .before .before .before .before .before .before .before .put-state2 .ensures) (c .before .before .before .put-call .ensures) (c .before .before .before .before .closed .ensures) (c .id .ensures)
+    grants (start .args .s) (now (start .args .states)) (now (start .args .owners)) lists (now (start .args .calls)) queue d (start .args .t) (start .args .c)
+    (after-put-state .put-state .ensures) (after-put-state2 .put-state2 .ensures) (after-put-call .put-call .ensures) (after-closed .closed .ensures) (c .id .ensures)
 
 pub grant-step-spec : {M : Type 1} → statement M
 grant-step-spec =

@@ -11,7 +11,9 @@ use Rattle.step_take.proofs.divide.split_step.Statement.{statement}
 use Rattle.step_take.proofs.divide.split_step.Tie as tie
 
 mul-first : tie.Need-mul-first
-mul-first c = omega (arith, count-range (c .before .before .before .args .s) (c .before .before .before .args .c .level) (limits (c .before .before .before .args .s) (c .before .before .before .pre .hand .shape)) (c .before .before .before .pre .hand .level), c .before .before .before .pre .hand .block)
+mul-first c =
+    let start : tie.Start = search in
+    omega (arith, count-range (start .args .s) (start .args .c .level) (limits (start .args .s) (start .pre .hand .shape)) (start .pre .hand .level), start .pre .hand .block)
 
 split-states-requires : tie.Need-split-states-requires
 split-states-requires c κs = search needs
@@ -20,11 +22,15 @@ add-append-parts : tie.Need-add-append-parts
 add-append-parts c = search needs
 
 add-append-parts-2 : tie.Need-add-append-parts-2
-add-append-parts-2 c = omega (arith, count-range (c .before .before .before .before .before .before .before .before .args .s) (c .before .before .before .before .before .before .before .before .args .c .level) (limits (c .before .before .before .before .before .before .before .before .args .s) (c .before .before .before .before .before .before .before .before .pre .hand .shape)) (c .before .before .before .before .before .before .before .before .pre .hand .level), c .before .before .before .before .before .before .before .before .pre .hand .block)
+add-append-parts-2 c =
+    let start : tie.Start = search in
+    omega (arith, count-range (start .args .s) (start .args .c .level) (limits (start .args .s) (start .pre .hand .shape)) (start .pre .hand .level), start .pre .hand .block)
 
 append-parts-requires : tie.Need-append-parts-requires
 unfolding parts
-append-parts-requires c κs = (c .before .before .before .before .before .before .before .before .pre .list, c .before .before .before .before .before .before .before .before .pre .room, omega (arith, count-range (c .before .before .before .before .before .before .before .before .args .s) (c .before .before .before .before .before .before .before .before .args .c .level) (limits (c .before .before .before .before .before .before .before .before .args .s) (c .before .before .before .before .before .before .before .before .pre .hand .shape)) (c .before .before .before .before .before .before .before .before .pre .hand .level), c .before .before .before .before .before .before .before .before .pre .hand .block))
+append-parts-requires c κs =
+    let start : tie.Start = search in
+    (start .pre .list, start .pre .room, omega (arith, count-range (start .args .s) (start .args .c .level) (limits (start .args .s) (start .pre .hand .shape)) (start .pre .hand .level), start .pre .hand .block))
 
 add-holding : tie.Need-add-holding
 add-holding c = search needs
@@ -40,7 +46,9 @@ add-id c = search needs
 
 id-requires : tie.Need-id-requires
 unfolding parts
-id-requires c κs = (c .before .before .before .before .before .before .before .before .before .before .before .before .before .before .before .before .pre .hand .shape, c .before .before .before .before .before .before .before .before .before .before .before .before .before .before .before .before .pre .list .level, omega (arith, part-inside (c .before .before .before .before .before .before .before .before .before .before .before .before .before .before .before .before .args .s) (c .before .before .before .before .before .before .before .before .before .before .before .before .before .before .before .before .args .c .level) (c .before .before .before .before .before .before .before .before .before .before .before .before .before .before .before .before .args .c .block) 0 (c .before .before .before .before .before .before .before .before .before .before .before .before .before .before .before .before .pre .hand .block) (omega arith)))
+id-requires c κs =
+    let start : tie.Start = search in
+    (start .pre .hand .shape, start .pre .list .level, omega (arith, part-inside (start .args .s) (start .args .c .level) (start .args .c .block) 0 (start .pre .hand .block) (omega arith)))
 
 same-length : tie.Need-same-length
 same-length c = search needs
@@ -54,9 +62,10 @@ same-length-3 c = search needs
 returns : tie.Need-returns
 unfolding parts
 returns c =
+    let (start, after-split-states, after-append-parts, after-holding, after-put-call) : tie.Start × tie.After-split-states × tie.After-append-parts × tie.After-holding × tie.After-put-call = search in
     λ owners queue d.
-    splits (c .before .before .before .before .before .before .before .before .before .before .before .before .before .before .before .before .before .args .s) (now (c .before .before .before .before .before .before .before .before .before .before .before .before .before .before .before .before .before .args .states)) owners (now (c .before .before .before .before .before .before .before .before .before .before .before .before .before .before .before .before .before .args .lists)) (now (c .before .before .before .before .before .before .before .before .before .before .before .before .before .before .before .before .before .args .calls)) queue d (c .before .before .before .before .before .before .before .before .before .before .before .before .before .before .before .before .before .args .t) (c .before .before .before .before .before .before .before .before .before .before .before .before .before .before .before .before .before .args .c)
-    (c .before .before .before .before .before .before .before .before .before .before .before .before .split-states .ensures) (c .before .before .before .before .before .before .before .before .append-parts .ensures) (c .before .before .before .put-call .ensures) (c .before .before .before .before .holding .ensures) (c .id .ensures)
+    splits (start .args .s) (now (start .args .states)) owners (now (start .args .lists)) (now (start .args .calls)) queue d (start .args .t) (start .args .c)
+    (after-split-states .split-states .ensures) (after-append-parts .append-parts .ensures) (after-put-call .put-call .ensures) (after-holding .holding .ensures) (c .id .ensures)
 
 pub split-step-spec : {M : Type 1} → statement M
 split-step-spec =

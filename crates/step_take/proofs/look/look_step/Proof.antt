@@ -22,15 +22,18 @@ same-length c = search needs
 
 returns : tie.Need-returns
 returns c =
+    let (start, then1, after-closed, after-put-call) : tie.Start × tie.Then1 × tie.After-closed × tie.After-put-call = search in
     λ states owners.
-    past-deadline (c .before .before .before .before .before .before .before .before .before .before .before .before .args .s) states owners (now (c .before .before .before .before .before .before .before .before .before .before .before .before .args .lists)) (now (c .before .before .before .before .before .before .before .before .before .before .before .before .args .calls)) (now (c .before .before .before .before .before .before .before .before .before .before .before .before .args .queue)) (c .before .before .before .before .before .before .before .before .before .before .before .before .args .d) (c .before .before .before .before .before .before .before .before .before .before .before .before .args .t) (c .before .before .before .before .before .before .before .before .before .before .before .before .args .c)
-    (c .before .before .before .before .before .if1 .taken) (c .before .before .put-call .ensures) (c .before .before .before .closed .ensures)
+    past-deadline (start .args .s) states owners (now (start .args .lists)) (now (start .args .calls)) (now (start .args .queue)) (start .args .d) (start .args .t) (start .args .c)
+    (then1 .if1 .taken) (after-put-call .put-call .ensures) (after-closed .closed .ensures)
 
 level-for-requires : tie.Need-level-for-requires
 level-for-requires c κs = search needs
 
 deepest-requires : tie.Need-deepest-requires
-deepest-requires c κs = omega (arith, c .level-for .ensures, levelFor-inside (c .before .before .before .before .before .before .before .before .args .s) (c .before .before .before .before .before .before .before .before .args .c .size) (limits (c .before .before .before .before .before .before .before .before .args .s) (c .before .before .before .before .before .before .before .before .pre .shape) .levels .0), c .before .before .before .before .before .before .before .before .pre .levels)
+deepest-requires c κs =
+    let start : tie.Start = search in
+    omega (arith, c .level-for .ensures, levelFor-inside (start .args .s) (start .args .c .size) (limits (start .args .s) (start .pre .shape) .levels .0), start .pre .levels)
 
 enum-known-room : tie.Need-enum-known-room
 enum-known-room c = search needs
@@ -52,9 +55,10 @@ same-length-2 c = search needs
 
 returns-2 : tie.Need-returns-2
 returns-2 c =
+    let (start, else1, after-level-for, after-deepest, after-room, after-moved, after-put-call2) : tie.Start × tie.Else1 × tie.After-level-for × tie.After-deepest × tie.After-room × tie.After-moved × tie.After-put-call2 = search in
     λ states owners.
-    finds (c .before .before .before .before .before .before .before .before .before .before .before .before .before .before .before .before .before .args .s) states owners (now (c .before .before .before .before .before .before .before .before .before .before .before .before .before .before .before .before .before .args .lists)) (now (c .before .before .before .before .before .before .before .before .before .before .before .before .before .before .before .before .before .args .calls)) (now (c .before .before .before .before .before .before .before .before .before .before .before .before .before .before .before .before .before .args .queue)) (c .before .before .before .before .before .before .before .before .before .before .before .before .before .before .before .before .before .args .d) (c .before .before .before .before .before .before .before .before .before .before .before .before .before .before .before .before .before .args .t) (c .before .before .before .before .before .before .before .before .before .before .before .before .before .before .before .before .before .args .c)
-    (c .before .before .before .before .before .before .before .before .before .before .if1 .left) (c .before .before .before .before .before .before .before .before .before .level-for .ensures) (c .before .before .before .before .before .before .before .before .deepest .ensures) (c .before .before .before .before .before .before .room .given .1) (c .before .before .put-call2 .ensures) (c .before .before .before .moved .ensures)
+    finds (start .args .s) states owners (now (start .args .lists)) (now (start .args .calls)) (now (start .args .queue)) (start .args .d) (start .args .t) (start .args .c)
+    (else1 .if1 .left) (after-level-for .level-for .ensures) (after-deepest .deepest .ensures) (after-room .room .given .1) (after-put-call2 .put-call2 .ensures) (after-moved .moved .ensures)
 
 same-length-3 : tie.Need-same-length-3
 same-length-3 c = search needs
@@ -64,9 +68,10 @@ same-length-4 c = search needs
 
 returns-3 : tie.Need-returns-3
 returns-3 c =
+    let (start, else1, after-level-for, after-deepest, after-enum-told, after-no-room) : tie.Start × tie.Else1 × tie.After-level-for × tie.After-deepest × tie.After-enum-told × tie.After-no-room = search in
     λ states owners.
-    finds-none (c .before .before .before .before .before .before .before .before .before .before .before .before .before .before .before .before .before .before .args .s) states owners (now (c .before .before .before .before .before .before .before .before .before .before .before .before .before .before .before .before .before .before .args .lists)) (now (c .before .before .before .before .before .before .before .before .before .before .before .before .before .before .before .before .before .before .args .calls)) (now (c .before .before .before .before .before .before .before .before .before .before .before .before .before .before .before .before .before .before .args .queue)) (c .before .before .before .before .before .before .before .before .before .before .before .before .before .before .before .before .before .before .args .d) (c .before .before .before .before .before .before .before .before .before .before .before .before .before .before .before .before .before .before .args .t) (c .before .before .before .before .before .before .before .before .before .before .before .before .before .before .before .before .before .before .args .c)
-    (c .before .before .before .before .before .before .before .before .before .before .before .if1 .left) (c .before .before .before .before .before .before .before .before .before .before .level-for .ensures) (c .before .before .before .before .before .before .before .before .before .deepest .ensures) (c .before .before .before .before .before .before .before .enum-told .given .1) (c .before .before .before .before .no-room .ensures (c .before .before .before .before .before .before .before .before .before .before .before .before .before .before .before .before .before .before .args .s) states owners (now (c .before .before .before .before .before .before .before .before .before .before .before .before .before .before .before .before .before .before .args .lists)) (c .before .before .before .before .before .before .before .before .before .before .before .before .before .before .before .before .before .before .pre .threads))
+    finds-none (start .args .s) states owners (now (start .args .lists)) (now (start .args .calls)) (now (start .args .queue)) (start .args .d) (start .args .t) (start .args .c)
+    (else1 .if1 .left) (after-level-for .level-for .ensures) (after-deepest .deepest .ensures) (after-enum-told .enum-told .given .1) (after-no-room .no-room .ensures (start .args .s) states owners (now (start .args .lists)) (start .pre .threads))
 
 pub look-step-spec : {M : Type 1} → statement M
 look-step-spec =

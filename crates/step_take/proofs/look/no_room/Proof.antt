@@ -17,9 +17,10 @@ same-length c = search needs
 
 returns : tie.Need-returns
 returns c =
+    let (start, then1, after-closed, after-put-call) : tie.Start × tie.Then1 × tie.After-closed × tie.After-put-call = search in
     λ s states owners lists e.
-    no-wait s states owners lists (now (c .before .before .before .before .before .before .before .before .before .args .calls)) (now (c .before .before .before .before .before .before .before .before .before .args .queue)) (c .before .before .before .before .before .before .before .before .before .args .d) (c .before .before .before .before .before .before .before .before .before .args .t) (c .before .before .before .before .before .before .before .before .before .args .c)
-    (c .before .before .before .before .before .if1 .taken) (c .before .before .put-call .ensures) (c .before .before .before .closed .ensures)
+    no-wait s states owners lists (now (start .args .calls)) (now (start .args .queue)) (start .args .d) (start .args .t) (start .args .c)
+    (then1 .if1 .taken) (after-put-call .put-call .ensures) (after-closed .closed .ensures)
 
 cast-if2 : tie.Need-cast-if2
 cast-if2 c = search needs
@@ -35,9 +36,10 @@ same-length-2 c = search needs
 
 returns-2 : tie.Need-returns-2
 returns-2 c =
+    let (start, else1, then2, after-closed2, after-put-call2) : tie.Start × tie.Else1 × tie.Then2 × tie.After-closed2 × tie.After-put-call2 = search in
     λ s states owners lists e.
-    at-deadline s states owners lists (now (c .before .before .before .before .before .before .before .before .before .before .before .before .args .calls)) (now (c .before .before .before .before .before .before .before .before .before .before .before .before .args .queue)) (c .before .before .before .before .before .before .before .before .before .before .before .before .args .d) (c .before .before .before .before .before .before .before .before .before .before .before .before .args .t) (c .before .before .before .before .before .before .before .before .before .before .before .before .args .c)
-    (c .before .before .before .before .before .before .before .before .if1 .left) (c .before .before .before .before .before .if2 .taken) (c .before .before .put-call2 .ensures) (c .before .before .before .closed2 .ensures)
+    at-deadline s states owners lists (now (start .args .calls)) (now (start .args .queue)) (start .args .d) (start .args .t) (start .args .c)
+    (else1 .if1 .left) (then2 .if2 .taken) (after-put-call2 .put-call2 .ensures) (after-closed2 .closed2 .ensures)
 
 moved-requires : tie.Need-moved-requires
 moved-requires c κs = search needs
@@ -56,9 +58,10 @@ same-length-4 c = search needs
 
 returns-3 : tie.Need-returns-3
 returns-3 c =
+    let (start, else1, else2, after-moved, after-put-call3, after-join) : tie.Start × tie.Else1 × tie.Else2 × tie.After-moved × tie.After-put-call3 × tie.After-join = search in
     λ s states owners lists e.
-    joins s states owners lists (now (c .before .before .before .before .before .before .before .before .before .before .before .before .before .before .before .before .args .calls)) (now (c .before .before .before .before .before .before .before .before .before .before .before .before .before .before .before .before .args .queue)) (c .before .before .before .before .before .before .before .before .before .before .before .before .before .before .before .before .args .d) (c .before .before .before .before .before .before .before .before .before .before .before .before .before .before .before .before .args .t) (c .before .before .before .before .before .before .before .before .before .before .before .before .before .before .before .before .args .c)
-    (c .before .before .before .before .before .before .before .before .before .before .before .before .if1 .left) (c .before .before .before .before .before .before .before .before .before .if2 .left) (c .before .before .before .before .before .before .put-call3 .ensures) (c .before .before .before .before .before .before .before .moved .ensures) (c .before .before .join .ensures) e
+    joins s states owners lists (now (start .args .calls)) (now (start .args .queue)) (start .args .d) (start .args .t) (start .args .c)
+    (else1 .if1 .left) (else2 .if2 .left) (after-put-call3 .put-call3 .ensures) (after-moved .moved .ensures) (after-join .join .ensures) e
 
 pub no-room-spec : {M : Type 1} → statement M
 no-room-spec =

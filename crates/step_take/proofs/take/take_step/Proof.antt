@@ -28,10 +28,11 @@ same-length c = search needs
 
 returns : tie.Need-returns
 returns c =
+    let (start, then1, after-moved, after-put-call) : tie.Start × tie.Then1 × tie.After-moved × tie.After-put-call = search in
     λ owners queue d.
-    again (c .before .before .before .before .before .before .before .before .before .before .args .s) (now (c .before .before .before .before .before .before .before .before .before .before .args .states)) owners (now (c .before .before .before .before .before .before .before .before .before .before .args .lists)) (now (c .before .before .before .before .before .before .before .before .before .before .args .calls)) queue d (c .before .before .before .before .before .before .before .before .before .before .args .t) (c .before .before .before .before .before .before .before .before .before .before .args .c)
-    (length-freeList (c .before .before .before .before .before .before .before .before .before .before .args .s) (now (c .before .before .before .before .before .before .before .before .before .before .args .lists)) (c .before .before .before .before .before .before .before .before .before .before .args .c .level) (c .before .before .before .before .before .before .before .before .before .before .pre .list .whole) (c .before .before .before .before .before .before .before .before .before .before .pre .list .level) (c .before .before .before .before .before .before .before .before .before .before .pre .list .most) ∙ c .before .before .before .before .before .if1 .taken)
-    (c .before .before .put-call .ensures) (c .before .before .before .moved .ensures)
+    again (start .args .s) (now (start .args .states)) owners (now (start .args .lists)) (now (start .args .calls)) queue d (start .args .t) (start .args .c)
+    (length-freeList (start .args .s) (now (start .args .lists)) (start .args .c .level) (start .pre .list .whole) (start .pre .list .level) (start .pre .list .most) ∙ then1 .if1 .taken)
+    (after-put-call .put-call .ensures) (after-moved .moved .ensures)
 
 first-requires : tie.Need-first-requires
 first-requires c κs = search needs
@@ -40,7 +41,9 @@ drop-first-requires : tie.Need-drop-first-requires
 drop-first-requires c κs = search needs
 
 put-state-requires : tie.Need-put-state-requires
-put-state-requires c κs = record { shape = c .before .before .before .before .before .before .before .before .before .before .before .before .pre .list .shape; level = c .before .before .before .before .before .before .before .before .before .before .before .before .pre .list .level; block = subst (λ (b : ℕ). b < count (c .before .before .before .before .before .before .before .before .before .before .before .before .args .s) (c .before .before .before .before .before .before .before .before .before .before .before .before .args .c .level)) (sym (c .before .before .before .before .before .first .ensures)) (c .before .before .before .before .before .before .before .before .before .before .before .before .pre .inside (omega (arith, c .before .before .before .before .before .before .before .if1 .left))); whole = c .before .before .before .before .before .before .before .before .before .before .before .before .pre .whole }
+put-state-requires c κs =
+    let (start, else1, after-first) : tie.Start × tie.Else1 × tie.After-first = search in
+    record { shape = start .pre .list .shape; level = start .pre .list .level; block = subst (λ (b : ℕ). b < count (start .args .s) (start .args .c .level)) (sym (after-first .first .ensures)) (start .pre .inside (omega (arith, else1 .if1 .left))); whole = start .pre .whole }
 
 holding-requires : tie.Need-holding-requires
 holding-requires c κs = search needs
@@ -49,7 +52,9 @@ put-call-requires-2 : tie.Need-put-call-requires-2
 put-call-requires-2 c κs = search needs
 
 id-requires : tie.Need-id-requires
-id-requires c κs = (c .before .before .before .before .before .before .before .before .before .before .before .before .before .before .before .before .before .before .before .before .pre .list .shape, c .before .before .before .before .before .before .before .before .before .before .before .before .before .before .before .before .before .before .before .before .pre .list .level, subst (λ (b : ℕ). b < count (c .before .before .before .before .before .before .before .before .before .before .before .before .before .before .before .before .before .before .before .before .args .s) (c .before .before .before .before .before .before .before .before .before .before .before .before .before .before .before .before .before .before .before .before .args .c .level)) (sym (c .before .before .before .before .before .before .before .before .before .before .before .before .before .first .ensures)) (c .before .before .before .before .before .before .before .before .before .before .before .before .before .before .before .before .before .before .before .before .pre .inside (omega (arith, c .before .before .before .before .before .before .before .before .before .before .before .before .before .before .before .if1 .left))))
+id-requires c κs =
+    let (start, else1, after-first) : tie.Start × tie.Else1 × tie.After-first = search in
+    (start .pre .list .shape, start .pre .list .level, subst (λ (b : ℕ). b < count (start .args .s) (start .args .c .level)) (sym (after-first .first .ensures)) (start .pre .inside (omega (arith, else1 .if1 .left))))
 
 same-length-2 : tie.Need-same-length-2
 same-length-2 c = search needs
@@ -62,10 +67,11 @@ same-length-4 c = search needs
 
 returns-2 : tie.Need-returns-2
 returns-2 c =
+    let (start, else1, after-first, after-drop-first, after-put-state, after-holding, after-put-call2) : tie.Start × tie.Else1 × tie.After-first × tie.After-drop-first × tie.After-put-state × tie.After-holding × tie.After-put-call2 = search in
     λ owners queue d.
-    taken (c .before .before .before .before .before .before .before .before .before .before .before .before .before .before .before .before .before .before .before .before .before .args .s) (now (c .before .before .before .before .before .before .before .before .before .before .before .before .before .before .before .before .before .before .before .before .before .args .states)) owners (now (c .before .before .before .before .before .before .before .before .before .before .before .before .before .before .before .before .before .before .before .before .before .args .lists)) (now (c .before .before .before .before .before .before .before .before .before .before .before .before .before .before .before .before .before .before .before .before .before .args .calls)) queue d (c .before .before .before .before .before .before .before .before .before .before .before .before .before .before .before .before .before .before .before .before .before .args .t) (c .before .before .before .before .before .before .before .before .before .before .before .before .before .before .before .before .before .before .before .before .before .args .c)
-    (omega (arith, length-freeList (c .before .before .before .before .before .before .before .before .before .before .before .before .before .before .before .before .before .before .before .before .before .args .s) (now (c .before .before .before .before .before .before .before .before .before .before .before .before .before .before .before .before .before .before .before .before .before .args .lists)) (c .before .before .before .before .before .before .before .before .before .before .before .before .before .before .before .before .before .before .before .before .before .args .c .level) (c .before .before .before .before .before .before .before .before .before .before .before .before .before .before .before .before .before .before .before .before .before .pre .list .whole) (c .before .before .before .before .before .before .before .before .before .before .before .before .before .before .before .before .before .before .before .before .before .pre .list .level) (c .before .before .before .before .before .before .before .before .before .before .before .before .before .before .before .before .before .before .before .before .before .pre .list .most), c .before .before .before .before .before .before .before .before .before .before .before .before .before .before .before .before .if1 .left))
-    (c .before .before .before .before .before .before .before .before .before .before .before .before .before .before .first .ensures) (c .before .before .before .before .before .before .before .before .before .before .before .before .drop-first .ensures) (c .before .before .before .before .before .before .before .before .put-state .ensures) (c .before .before .before .put-call2 .ensures) (c .before .before .before .before .holding .ensures) (c .id .ensures)
+    taken (start .args .s) (now (start .args .states)) owners (now (start .args .lists)) (now (start .args .calls)) queue d (start .args .t) (start .args .c)
+    (omega (arith, length-freeList (start .args .s) (now (start .args .lists)) (start .args .c .level) (start .pre .list .whole) (start .pre .list .level) (start .pre .list .most), else1 .if1 .left))
+    (after-first .first .ensures) (after-drop-first .drop-first .ensures) (after-put-state .put-state .ensures) (after-put-call2 .put-call2 .ensures) (after-holding .holding .ensures) (c .id .ensures)
 
 pub take-step-spec : {M : Type 1} → statement M
 take-step-spec =

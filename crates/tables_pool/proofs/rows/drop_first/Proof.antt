@@ -59,9 +59,10 @@ same-length c = simp length-set (c .before .loop .inv .1)
 
 returns : tie.Need-returns Inv-loop μ-loop
 returns c =
-    let e : c .before .loop .i + 1 ≡ c .before .before .args .n = omega arith in
+    let start : tie.Start Inv-loop μ-loop = search in
+    let e : c .before .loop .i + 1 ≡ start .args .n = omega arith in
     rw (← e, c .before .loop .inv .2)
-    (shifted-end (c .before .loop .i) _ (omega arith) (rw e (c .before .before .pre .0 .zeros)))
+    (shifted-end (c .before .loop .i) _ (omega arith) (rw e (start .pre .0 .zeros)))
 
 pub drop-first-spec : {M : Type 1} → statement M
 drop-first-spec =

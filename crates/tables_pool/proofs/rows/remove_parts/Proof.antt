@@ -37,7 +37,9 @@ cast-if1 : tie.Need-cast-if1 Inv-loop μ-loop
 cast-if1 c = omega (arith, c .slice-known .given (c .before .before .loop .i))
 
 div-if1 : tie.Need-div-if1 Inv-loop μ-loop
-div-if1 c = c .before .before .before .pre .1
+div-if1 c =
+    let start : tie.Start Inv-loop μ-loop = search in
+    start .pre .1
 
 mul-row-2 : tie.Need-mul-row-2 Inv-loop μ-loop
 mul-row-2 c = omega arith
@@ -55,19 +57,22 @@ loop-less : tie.Need-loop-less Inv-loop μ-loop
 loop-less c = omega arith
 
 loop-again : tie.Need-loop-again Inv-loop μ-loop
-loop-again c = (
-  omega arith,
-  ⊎-elim
-      (λ w. rw (w .1, w .2) (sifting-pass (c .before .before .before .loop .inv .1) (omega arith) (ap not (ne-eqb _ _ (w .0 .taken)))))
-      (λ w. rw (w .1, w .2) (sifting-fail (c .before .before .before .loop .inv .1) (omega arith) (ap not (eq-eqb _ _ (w .0 .left)))))
-      (c .if1 .came),
-)
+loop-again c =
+    let at-loop : tie.At-loop Inv-loop μ-loop = search in (
+      omega arith,
+      ⊎-elim
+          (λ w. rw (w .1, w .2) (sifting-pass (at-loop .loop .inv .1) (omega arith) (ap not (ne-eqb _ _ (w .0 .taken)))))
+          (λ w. rw (w .1, w .2) (sifting-fail (at-loop .loop .inv .1) (omega arith) (ap not (eq-eqb _ _ (w .0 .left)))))
+          (c .if1 .came),
+    )
 
 same-length : tie.Need-same-length Inv-loop μ-loop
 same-length c = c .before .loop .inv .1 .wide
 
 returns : tie.Need-returns Inv-loop μ-loop
-returns c = sifting-all (c .before .loop .inv .1) _ (omega arith) (c .before .before .pre .0)
+returns c =
+    let start : tie.Start Inv-loop μ-loop = search in
+    sifting-all (c .before .loop .inv .1) _ (omega arith) (start .pre .0)
 
 pub remove-parts-spec : {M : Type 1} → statement M
 remove-parts-spec =

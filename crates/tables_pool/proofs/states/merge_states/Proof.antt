@@ -17,23 +17,25 @@ place-requires c κs = search needs
 fill-requires : tie.Need-fill-requires
 unfolding parts
 fill-requires c κs =
-    omega (arith, buddies-fit (c .before .before .before .pre .0) (c .before .before .before .pre .1))
+    let start : tie.Start = search in
+    omega (arith, buddies-fit (start .pre .0) (start .pre .1))
 
 sub-place : tie.Need-sub-place
 sub-place c = search needs
 
 place-requires-2 : tie.Need-place-requires-2
 unfolding parts
-place-requires-2 c κs = (
-  c .before .before .before .before .before .before .pre .0 .shape,
-  omega arith,
-  parent-inside
-      (c .before .before .before .before .before .before .args .s)
-      (c .before .before .before .before .before .before .args .l)
-      (c .before .before .before .before .before .before .args .b)
-      (c .before .before .before .before .before .before .pre .1)
-      (c .before .before .before .before .before .before .pre .0 .block),
-)
+place-requires-2 c κs =
+    let start : tie.Start = search in (
+      start .pre .0 .shape,
+      omega arith,
+      parent-inside
+          (start .args .s)
+          (start .args .l)
+          (start .args .b)
+          (start .pre .1)
+          (start .pre .0 .block),
+    )
 
 slice-write-states : tie.Need-slice-write-states
 slice-write-states c = search needs
@@ -44,7 +46,8 @@ same-length c = search needs
 returns : tie.Need-returns
 unfolding parts
 returns c =
-    rw (c .before .before .before .fill .ensures, c .place2 .ensures .0, c .before .before .before .before .before .place .ensures .0)
+    let (after-place, after-fill) : tie.After-place × tie.After-fill = search in
+    rw (after-fill .fill .ensures, c .place2 .ensures .0, after-place .place .ensures .0)
 
 pub merge-states-spec : {M : Type 1} → statement M
 merge-states-spec =

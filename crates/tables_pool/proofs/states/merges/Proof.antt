@@ -27,26 +27,32 @@ mul-buddy c = omega arith
 
 place-requires : tie.Need-place-requires Inv-loop μ-loop
 unfolding parts
-place-requires c κs = (
-  c .before .before .pre .shape,
-  c .before .before .pre .level,
-  first-buddy (c .before .before .pre) (omega arith),
-)
+place-requires c κs =
+    let start : tie.Start Inv-loop μ-loop = search in (
+      start .pre .shape,
+      start .pre .level,
+      first-buddy (start .pre) (omega arith),
+    )
 
 loop-holds : tie.Need-loop-holds Inv-loop μ-loop
 loop-holds c = (omega arith, sym (every-none _))
 
 add-free : tie.Need-add-free Inv-loop μ-loop
-add-free c = omega (arith, block-short (c .before .before .before .before .before .pre))
+add-free c =
+    let start : tie.Start Inv-loop μ-loop = search in
+    omega (arith, block-short (start .pre))
 
 add-free-2 : tie.Need-add-free-2 Inv-loop μ-loop
 unfolding parts
-add-free-2 c = omega (arith, buddies-fit (c .before .before .before .before .before .pre) (omega arith))
+add-free-2 c =
+    let start : tie.Start Inv-loop μ-loop = search in
+    omega (arith, buddies-fit (start .pre) (omega arith))
 
 shared-slice-read-free : tie.Need-shared-slice-read-free Inv-loop μ-loop
 unfolding parts
 shared-slice-read-free c =
-    omega (arith, buddies-fit (c .before .before .before .before .before .before .pre) (omega arith))
+    let start : tie.Start Inv-loop μ-loop = search in
+    omega (arith, buddies-fit (start .pre) (omega arith))
 
 add-j : tie.Need-add-j Inv-loop μ-loop
 add-j c = omega arith

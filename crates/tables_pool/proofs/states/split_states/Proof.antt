@@ -21,11 +21,15 @@ add-place : tie.Need-add-place
 add-place c = search needs
 
 mul-place : tie.Need-mul-place
-mul-place c = omega (arith, block-short (c .before .before .pre .0))
+mul-place c =
+    let start : tie.Start = search in
+    omega (arith, block-short (start .pre .0))
 
 place-requires-2 : tie.Need-place-requires-2
 unfolding parts
-place-requires-2 c κs = (c .before .before .pre .0 .shape, c .before .before .pre .1, first-part (c .before .before .pre .0))
+place-requires-2 c κs =
+    let start : tie.Start = search in
+    (start .pre .0 .shape, start .pre .1, first-part (start .pre .0))
 
 slice-write-states-2 : tie.Need-slice-write-states-2
 slice-write-states-2 c = search needs
@@ -39,15 +43,16 @@ sub-fill c = search needs
 fill-requires : tie.Need-fill-requires
 unfolding parts
 fill-requires c κs =
+    let start : tie.Start = search in
     simp length-set
     (omega (
       arith,
       parts-placed
-          (c .before .before .before .before .args .s)
-          (c .before .before .before .before .args .l)
-          (c .before .before .before .before .args .b)
-          (c .before .before .before .before .pre .1)
-          (c .before .before .before .before .pre .0 .block),
+          (start .args .s)
+          (start .args .l)
+          (start .args .b)
+          (start .pre .1)
+          (start .pre .0 .block),
     ))
 
 same-length : tie.Need-same-length
@@ -56,11 +61,12 @@ same-length c = c .before .before .fill .kept .0 ∙ simp length-set
 returns : tie.Need-returns
 unfolding parts
 returns c =
-    c .before .before .fill .ensures
+    let (after-place, after-place2, after-fill) : tie.After-place × tie.After-place2 × tie.After-fill = search in
+    after-fill .fill .ensures
     ∙ rw (
-      add-one (c .before .before .before .before .place2 .result),
-      c .before .before .before .before .before .place .ensures .0,
-      c .before .before .before .before .place2 .ensures .0,
+      add-one (after-place2 .place2 .result),
+      after-place .place .ensures .0,
+      after-place2 .place2 .ensures .0,
     )
 
 pub split-states-spec : {M : Type 1} → statement M

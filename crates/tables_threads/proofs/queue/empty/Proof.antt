@@ -32,20 +32,22 @@ loop-less : tie.Need-loop-less Inv-loop μ-loop
 loop-less c = omega arith
 
 loop-again : tie.Need-loop-again Inv-loop μ-loop
-loop-again c = (
-  omega arith,
-  simp length-set (omega arith),
-  rw (c .before .loop .inv .2)
-      (pad-clear (c .before .loop .i) [] (c .before .before .args .queue .now) (omega arith) (omega arith)),
-)
+loop-again c =
+    let start : tie.Start Inv-loop μ-loop = search in (
+      omega arith,
+      simp length-set (omega arith),
+      rw (c .before .loop .inv .2)
+          (pad-clear (c .before .loop .i) [] (start .args .queue .now) (omega arith) (omega arith)),
+    )
 
 same-length : tie.Need-same-length Inv-loop μ-loop
 same-length c = omega arith
 
 returns : tie.Need-returns Inv-loop μ-loop
 returns c =
-    let e : c .before .loop .i ≡ length (c .before .before .args .queue .now) = omega arith in
-    c .before .loop .inv .2 ∙ rw e (emptied (c .before .before .args .queue .now) (c .before .before .pre))
+    let start : tie.Start Inv-loop μ-loop = search in
+    let e : c .before .loop .i ≡ length (start .args .queue .now) = omega arith in
+    c .before .loop .inv .2 ∙ rw e (emptied (start .args .queue .now) (start .pre))
 
 pub empty-spec : {M : Type 1} → statement M
 empty-spec =

@@ -25,48 +25,49 @@ cast-end : tie.Need-cast-end Inv-loop μ-loop
 cast-end c = omega (arith, c .slice-known2 .given 0)
 
 loop-holds : tie.Need-loop-holds Inv-loop μ-loop
-loop-holds c = (omega arith, staying-none _ _ (c .before .before .before .pre .0 .some))
+loop-holds c =
+    let start : tie.Start Inv-loop μ-loop = search in
+    (omega arith, staying-none _ _ (start .pre .0 .some))
 
 add-t : tie.Need-add-t Inv-loop μ-loop
 add-t c = omega arith
 
 slice-read-t : tie.Need-slice-read-t Inv-loop μ-loop
 slice-read-t c =
-    let l = c .before .before in
-    omega (arith, staying-length (l .before .before .before .before .pre .0) (l .loop .inv .1) (omega arith))
+    let (start, l) : tie.Start Inv-loop μ-loop × tie.At-loop Inv-loop μ-loop = search in
+    omega (arith, staying-length (start .pre .0) (l .loop .inv .1) (omega arith))
 
 add-queue : tie.Need-add-queue Inv-loop μ-loop
 add-queue c = omega arith
 
 slice-write-queue : tie.Need-slice-write-queue Inv-loop μ-loop
 slice-write-queue c =
-    let l = c .before .before in
-    omega (arith, staying-length (l .before .before .before .before .pre .0) (l .loop .inv .1) (omega arith))
+    let (start, l) : tie.Start Inv-loop μ-loop × tie.At-loop Inv-loop μ-loop = search in
+    omega (arith, staying-length (start .pre .0) (l .loop .inv .1) (omega arith))
 
 cast-is-due : tie.Need-cast-is-due Inv-loop μ-loop
 cast-is-due c = omega (arith, c .slice-known3 .given (c .before .before .loop .i + 1))
 
 is-due-requires : tie.Need-is-due-requires Inv-loop μ-loop
 is-due-requires c κs =
-    let l = c .before .before in
-    let a = l .before .before .before .before in
+    let (a, l) : tie.Start Inv-loop μ-loop × tie.At-loop Inv-loop μ-loop = search in
     omega (arith, staying-at (a .pre .0) (l .loop .inv .1) (omega arith), a .pre .1 .inside (l .loop .i) (omega arith))
 
 add-queue-2 : tie.Need-add-queue-2 Inv-loop μ-loop
 add-queue-2 c =
-    let l = c .before .before .before .before in
-    omega (arith, staying-most (l .before .before .before .before .pre .0) (l .loop .inv .1))
+    let (start, l) : tie.Start Inv-loop μ-loop × tie.At-loop Inv-loop μ-loop = search in
+    omega (arith, staying-most (start .pre .0) (l .loop .inv .1))
 
 slice-write-queue-2 : tie.Need-slice-write-queue-2 Inv-loop μ-loop
 slice-write-queue-2 c =
-    let l = c .before .before .before .before in
-    let r = l .before .before .before .before .pre .0 in
+    let (start, l) : tie.Start Inv-loop μ-loop × tie.At-loop Inv-loop μ-loop = search in
+    let r = start .pre .0 in
     simp length-set (omega (arith, staying-most r (l .loop .inv .1), staying-length r (l .loop .inv .1) (omega arith)))
 
 add-kept : tie.Need-add-kept Inv-loop μ-loop
 add-kept c =
-    let l = c .before .before .before .before in
-    omega (arith, staying-most (l .before .before .before .before .pre .0) (l .loop .inv .1))
+    let (start, l) : tie.Start Inv-loop μ-loop × tie.At-loop Inv-loop μ-loop = search in
+    omega (arith, staying-most (start .pre .0) (l .loop .inv .1))
 
 add-i : tie.Need-add-i Inv-loop μ-loop
 add-i c = omega arith
@@ -76,8 +77,8 @@ loop-less c = omega arith
 
 loop-again : tie.Need-loop-again Inv-loop μ-loop
 loop-again c =
-    let l = c .before .before .before .before in
-    let r = l .before .before .before .before .pre .0 in
+    let (start, l) : tie.Start Inv-loop μ-loop × tie.At-loop Inv-loop μ-loop = search in
+    let r = start .pre .0 in
     let said = ap not (sym (c .before .is-due .ensures)) in (
       omega arith,
       ⊎-elim (λ w. rw (w .1, w .2) (staying-pass r (l .loop .inv .1) (omega arith) (said ∙ w .0 .taken)))
@@ -86,23 +87,27 @@ loop-again c =
 
 cast-queue : tie.Need-cast-queue Inv-loop μ-loop
 cast-queue c =
+    let (start, after-slice-known2) : tie.Start Inv-loop μ-loop × tie.After-slice-known2 Inv-loop μ-loop = search in
     let l = c .before in
-    omega (arith, staying-most (l .before .before .before .before .pre .0) (l .loop .inv .1), l .before .slice-known2 .given 0)
+    omega (arith, staying-most (start .pre .0) (l .loop .inv .1), after-slice-known2 .slice-known2 .given 0)
 
 slice-write-queue-3 : tie.Need-slice-write-queue-3 Inv-loop μ-loop
 slice-write-queue-3 c =
+    let start : tie.Start Inv-loop μ-loop = search in
     let l = c .before in
-    omega (arith, staying-length (l .before .before .before .before .pre .0) (l .loop .inv .1) (l .loop .inv .0))
+    omega (arith, staying-length (start .pre .0) (l .loop .inv .1) (l .loop .inv .0))
 
 same-length : tie.Need-same-length Inv-loop μ-loop
 same-length c =
+    let start : tie.Start Inv-loop μ-loop = search in
     let l = c .before in
-    simp length-set (omega (arith, staying-length (l .before .before .before .before .pre .0) (l .loop .inv .1) (l .loop .inv .0)))
+    simp length-set (omega (arith, staying-length (start .pre .0) (l .loop .inv .1) (l .loop .inv .0)))
 
 returns : tie.Need-returns Inv-loop μ-loop
 returns c =
+    let start : tie.Start Inv-loop μ-loop = search in
     let l = c .before in
-    staying-all (l .before .before .before .before .pre .0) (l .loop .inv .1) (omega arith)
+    staying-all (start .pre .0) (l .loop .inv .1) (omega arith)
 
 pub keep-waiting-spec : {M : Type 1} → statement M
 keep-waiting-spec =

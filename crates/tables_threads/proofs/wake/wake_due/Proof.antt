@@ -14,8 +14,7 @@ wake-those-due-requires c κs = search needs
 
 keep-waiting-requires : tie.Need-keep-waiting-requires
 keep-waiting-requires c κs =
-    let w = c .before .before .before .before in
-    let a = w .before .before .before .before .before in
+    let (a, w) : tie.Start × tie.After-wake-those-due = search in
     (a .pre .0, inside-same (a .args .calls .now) _ _ (w .wake-those-due .kept .0) (a .pre .1))
 
 same-length : tie.Need-same-length
@@ -26,12 +25,11 @@ same-length-2 c = search needs
 
 returns : tie.Need-returns
 returns c =
-    let w = c .before .before .before .before .before .before .before in
-    let a = w .before .before .before .before .before in
+    let (a, w, after-keep-waiting) : tie.Start × tie.After-wake-those-due × tie.After-keep-waiting = search in
     record {
       awake = w .wake-those-due .ensures .0;
       queued =
-          c .before .before .keep-waiting .ensures
+          after-keep-waiting .keep-waiting .ensures
           ∙ ap (putQueue (length (a .args .queue .now) - 1))
           (rw (w .wake-those-due .ensures .0) (keep-wake (a .args .calls .now) _ (a .args .clock) (queueOf (a .args .queue .now))));
       number = w .wake-those-due .ensures .1;

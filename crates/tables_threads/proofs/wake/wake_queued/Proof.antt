@@ -38,15 +38,18 @@ cast-t c = omega (arith, c .shared-slice-known2 .given (c .before .before .loop 
 
 mul-calls : tie.Need-mul-calls Inv-loop μ-loop
 mul-calls c =
-    omega (arith, c .before .before .before .before .pre .inside (c .before .before .loop .i) (omega arith))
+    let (start, at-loop) : tie.Start Inv-loop μ-loop × tie.At-loop Inv-loop μ-loop = search in
+    omega (arith, start .pre .inside (at-loop .loop .i) (omega arith))
 
 mul-calls-2 : tie.Need-mul-calls-2 Inv-loop μ-loop
 mul-calls-2 c =
-    omega (arith, c .before .before .before .before .pre .inside (c .before .before .loop .i) (omega arith))
+    let (start, at-loop) : tie.Start Inv-loop μ-loop × tie.At-loop Inv-loop μ-loop = search in
+    omega (arith, start .pre .inside (at-loop .loop .i) (omega arith))
 
 slice-write-calls : tie.Need-slice-write-calls Inv-loop μ-loop
 slice-write-calls c =
-    omega (arith, c .before .before .before .before .pre .inside (c .before .before .loop .i) (omega arith))
+    let (start, at-loop) : tie.Start Inv-loop μ-loop × tie.At-loop Inv-loop μ-loop = search in
+    omega (arith, start .pre .inside (at-loop .loop .i) (omega arith))
 
 add-i : tie.Need-add-i Inv-loop μ-loop
 add-i c = omega arith
@@ -56,11 +59,11 @@ loop-less c = omega arith
 
 loop-again : tie.Need-loop-again Inv-loop μ-loop
 loop-again c =
-    let a = c .before .before .before .before in (
+    let (a, at-loop) : tie.Start Inv-loop μ-loop × tie.At-loop Inv-loop μ-loop = search in (
       omega arith,
       simp length-set (omega arith),
-      rw (c .before .before .loop .inv .2)
-          (wake-next (a .args .calls .now) (a .args .queue .now) (c .before .before .loop .i) (a .pre .fits) (omega arith)),
+      rw (at-loop .loop .inv .2)
+          (wake-next (a .args .calls .now) (a .args .queue .now) (at-loop .loop .i) (a .pre .fits) (omega arith)),
     )
 
 same-length : tie.Need-same-length Inv-loop μ-loop
@@ -68,7 +71,7 @@ same-length c = omega arith
 
 returns : tie.Need-returns Inv-loop μ-loop
 returns c =
-    let a = c .before .before .before in (
+    let a : tie.Start Inv-loop μ-loop = search in (
       c .before .loop .inv .2
           ∙ ap (wake (a .args .calls .now)) (queueOf-all (a .args .queue .now) (c .before .loop .i) (omega arith)),
       sym (length-queueOf (a .args .queue .now) (a .pre .fits)),

@@ -35,26 +35,28 @@ cast-t c = omega (arith, c .shared-slice-known3 .given (c .before .before .loop 
 
 is-due-requires : tie.Need-is-due-requires Inv-loop μ-loop
 is-due-requires c κs =
-    let l = c .before .before .before in
-    omega (arith, awake-length (l .loop .inv .1), l .before .before .before .before .pre .inside (l .loop .i) (omega arith))
+    let (start, l) : tie.Start Inv-loop μ-loop × tie.At-loop Inv-loop μ-loop = search in
+    omega (arith, awake-length (l .loop .inv .1), start .pre .inside (l .loop .i) (omega arith))
 
 mul-calls : tie.Need-mul-calls Inv-loop μ-loop
 mul-calls c =
-    let l = c .before .before .before .before .before in
-    omega (arith, awake-length (l .loop .inv .1), l .before .before .before .before .pre .inside (l .loop .i) (omega arith))
+    let (start, l) : tie.Start Inv-loop μ-loop × tie.At-loop Inv-loop μ-loop = search in
+    omega (arith, awake-length (l .loop .inv .1), start .pre .inside (l .loop .i) (omega arith))
 
 mul-calls-2 : tie.Need-mul-calls-2 Inv-loop μ-loop
 mul-calls-2 c =
-    let l = c .before .before .before .before .before in
-    omega (arith, awake-length (l .loop .inv .1), l .before .before .before .before .pre .inside (l .loop .i) (omega arith))
+    let (start, l) : tie.Start Inv-loop μ-loop × tie.At-loop Inv-loop μ-loop = search in
+    omega (arith, awake-length (l .loop .inv .1), start .pre .inside (l .loop .i) (omega arith))
 
 slice-write-calls : tie.Need-slice-write-calls Inv-loop μ-loop
 slice-write-calls c =
-    let l = c .before .before .before .before .before in
-    omega (arith, awake-length (l .loop .inv .1), l .before .before .before .before .pre .inside (l .loop .i) (omega arith))
+    let (start, l) : tie.Start Inv-loop μ-loop × tie.At-loop Inv-loop μ-loop = search in
+    omega (arith, awake-length (l .loop .inv .1), start .pre .inside (l .loop .i) (omega arith))
 
 add-woken : tie.Need-add-woken Inv-loop μ-loop
-add-woken c = omega (arith, awake-most (c .before .before .before .before .before .loop .inv .1))
+add-woken c =
+    let at-loop : tie.At-loop Inv-loop μ-loop = search in
+    omega (arith, awake-most (at-loop .loop .inv .1))
 
 add-i : tie.Need-add-i Inv-loop μ-loop
 add-i c = omega arith
@@ -64,8 +66,7 @@ loop-less c = omega arith
 
 loop-again : tie.Need-loop-again Inv-loop μ-loop
 loop-again c =
-    let l = c .before .before .before .before .before in
-    let a = l .before .before .before .before in
+    let (a, l) : tie.Start Inv-loop μ-loop × tie.At-loop Inv-loop μ-loop = search in
     let said = sym (awake-due (l .loop .inv .1) (a .args .clock) _) ∙ sym (c .before .is-due .ensures) in (
       omega arith,
       ⊎-elim (λ w. rw (w .1, w .2) (awake-pass (l .loop .inv .1) (a .pre .fits) (omega arith) (said ∙ w .0 .taken)))
