@@ -15,7 +15,7 @@ use Rattle.shape.specs.declared.Shape.{Shape}
 use Rattle.rules.specs.declared.Call.{Call}
 use Rattle.rules.specs.Numbers.{FREEING, ALLOCATING, DIVIDING, RELEASING}
 use Rattle.rules.specs.Tables.{callOf}
-use Rattle.rules.specs.Valid.{oneToOne}
+use Rattle.rules.specs.Valid.{dividing, releasing, oneToOne}
 use Rattle.check_counts.specs.Counted.{byte-bit, counted, counted-two}
 use Rattle.check_hands.specs.Hands.{atStage, aloneWith, handAlone, Hands, corresponds, alone-fewer}
 
@@ -48,12 +48,12 @@ passed-all {s} {calls} {test} {t} p h =
 -- a call at either stage is alone with a block of its state
 abbrev pub ownAlone : Shape → List ℕ → List ℕ → Call → Bool
 ownAlone s states calls c =
-    handAlone s states calls ALLOCATING (atStage DIVIDING) c && handAlone s states calls FREEING (atStage RELEASING) c
+    handAlone s states calls ALLOCATING dividing c && handAlone s states calls FREEING releasing c
 
 -- so many of the first t calls are dividing or releasing, and the flag says whether each of these is alone
 pub record Looked (s : Shape) (states calls : List ℕ) (ok : Bool) (n t : ℕ) : Type 0 where
   pub inside : t ≤ s .threads
-  pub told-sum : n ≡ tally t (λ u. atStage DIVIDING (callOf calls u)) + tally t (λ u. atStage RELEASING (callOf calls u))
+  pub told-sum : n ≡ tally t (λ u. dividing (callOf calls u)) + tally t (λ u. releasing (callOf calls u))
   pub told-ok : ok ≡ every t (λ u. ownAlone s states calls (callOf calls u))
 
 pub looked-none : (s : Shape) (states calls : List ℕ) → Looked s states calls true 0 0
@@ -66,14 +66,14 @@ looked-most {calls = calls} {t = t} p =
       arith,
       p .inside,
       p .told-sum,
-      tally-most t (λ u. atStage DIVIDING (callOf calls u)),
-      tally-most t (λ u. atStage RELEASING (callOf calls u)),
+      tally-most t (λ u. dividing (callOf calls u)),
+      tally-most t (λ u. releasing (callOf calls u)),
     )
 
 -- one call more
 looked-more :
     {s : Shape} {states calls : List ℕ} {ok : Bool} {n t : ℕ} (c : Call) {a d r : Bool} → Looked s states calls ok n t →
-    t < s .threads → c ≡ callOf calls t → atStage DIVIDING c ≡ d → atStage RELEASING c ≡ r → ownAlone s states calls c ≡ a →
+    t < s .threads → c ≡ callOf calls t → dividing c ≡ d → releasing c ≡ r → ownAlone s states calls c ≡ a →
     Looked s states calls (ok && a) (n + (bit d + bit r)) (t + 1)
 looked-more {s} {states} {calls} {t = t} c p h e q v w =
     record {
@@ -82,10 +82,10 @@ looked-more {s} {states} {calls} {t = t} c p h e q v w =
           omega (
             arith,
             p .told-sum,
-            tally-more t (λ u. atStage DIVIDING (callOf calls u)),
-            tally-more t (λ u. atStage RELEASING (callOf calls u)),
-            ap bit (sym (ap (atStage DIVIDING) e) ∙ q),
-            ap bit (sym (ap (atStage RELEASING) e) ∙ v),
+            tally-more t (λ u. dividing (callOf calls u)),
+            tally-more t (λ u. releasing (callOf calls u)),
+            ap bit (sym (ap dividing e) ∙ q),
+            ap bit (sym (ap releasing e) ∙ v),
           );
       told-ok = rw (every-more, ← p .told-ok, ← e, w);
     }
@@ -133,19 +133,18 @@ meet f g t u false b h k = simp and-false
 
 -- all calls
 pub looked-all :
-    {s : Shape} {states calls : List ℕ} {ok : Bool} {n t m : ℕ} → Hands s states calls (atStage DIVIDING) →
-    Hands s states calls (atStage RELEASING) → Looked s states calls ok n t → s .threads ≤ t →
+    {s : Shape} {states calls : List ℕ} {ok : Bool} {n t m : ℕ} → Hands s states calls dividing →
+    Hands s states calls releasing → Looked s states calls ok n t → s .threads ≤ t →
     m ≡ counted states ALLOCATING FREEING →
-    (eqb m n && ok) ≡ (oneToOne ALLOCATING DIVIDING s states calls && oneToOne FREEING RELEASING s states calls)
-unfolding oneToOne
+    (eqb m n && ok) ≡ (oneToOne ALLOCATING dividing s states calls && oneToOne FREEING releasing s states calls)
 looked-all {s} {states} {calls} {t = t} d r p l e =
     let q : t ≡ s .threads = omega (arith, p .inside) in
     rw (e, counted-two states ALLOCATING FREEING (λ z. omega arith), p .told-sum, p .told-ok, q, each)
-    (meet _ _ _ _ _ _ (alone-fewer s states calls (atStage DIVIDING) d ALLOCATING) (alone-fewer s states calls (atStage RELEASING) r FREEING)
-    ∙ ap₂ _&&_ (corresponds s states calls (atStage DIVIDING) d ALLOCATING) (corresponds s states calls (atStage RELEASING) r FREEING))
+    (meet _ _ _ _ _ _ (alone-fewer s states calls dividing d ALLOCATING) (alone-fewer s states calls releasing r FREEING)
+    ∙ ap₂ _&&_ (corresponds s states calls dividing d ALLOCATING) (corresponds s states calls releasing r FREEING))
   where
     each :
         every (s .threads) (λ u. ownAlone s states calls (callOf calls u))
-        ≡ (every (s .threads) (λ u. handAlone s states calls ALLOCATING (atStage DIVIDING) (callOf calls u))
-        && every (s .threads) (λ u. handAlone s states calls FREEING (atStage RELEASING) (callOf calls u)))
+        ≡ (every (s .threads) (λ u. handAlone s states calls ALLOCATING dividing (callOf calls u))
+        && every (s .threads) (λ u. handAlone s states calls FREEING releasing (callOf calls u)))
     each = every-both (s .threads) _ _

@@ -19,7 +19,7 @@ use Rattle.shape.specs.Levels.{every-place}
 use Rattle.rules.specs.declared.Call.{Call}
 use Rattle.rules.specs.Numbers.{CELLS}
 use Rattle.rules.specs.Tables.{stateAt, callOf}
-use Rattle.rules.specs.Valid.{usesBlock, handInside, oneToOne, callsKept}
+use Rattle.rules.specs.Valid.{usesBlock, handInside, inHand, oneToOne, callsKept}
 use Rattle.facts.specs.Given.{call-facts, hand-inside}
 use Rattle.check_counts.specs.Counted.{inState}
 
@@ -36,13 +36,9 @@ kept-inside s clock calls e = every-of (s .threads) _ (λ t h. call-facts s cloc
 abbrev pub atStage : ℕ → Call → Bool
 atStage stage c = eqb (c .stage) stage
 
--- block b of level l is the block in hand of a call that passes a test
-abbrev pub inHandOf : (Call → Bool) → ℕ → ℕ → Call → Bool
-inHandOf test l b c = test c && eqb (c .level) l && eqb (c .block) b
-
 -- how many calls that pass a test have block b of level l in hand
 abbrev pub holders : Shape → List ℕ → (Call → Bool) → ℕ → ℕ → ℕ
-holders s calls test l b = tally (s .threads) (λ t. inHandOf test l b (callOf calls t))
+holders s calls test l b = tally (s .threads) (λ t. inHand test l b (callOf calls t))
 
 -- a call's block in hand is in this state, and no other call that passes has it
 abbrev pub aloneWith : Shape → List ℕ → List ℕ → ℕ → (Call → Bool) → Call → Bool
@@ -93,7 +89,7 @@ module _ (s : Shape) (states calls : List ℕ) (test : Call → Bool) (h : Hands
   -- a block in hand is told by its place
   by-place :
       (l b : ℕ) → b < count s l → (t : ℕ) → t < s .threads →
-      inHandOf test l b (callOf calls t) ≡ (test (callOf calls t) && eqb (handPlace s calls t) (place s l b))
+      inHand test l b (callOf calls t) ≡ (test (callOf calls t) && eqb (handPlace s calls t) (place s l b))
   by-place l b k t m = go (test (callOf calls t)) refl
     where
       c : Call
@@ -145,8 +141,8 @@ module _ (s : Shape) (states calls : List ℕ) (test : Call → Bool) (h : Hands
       (st : ℕ) →
       (eqb (tally (length states) (inState states st)) (tally (s .threads) (λ t. test (callOf calls t)))
       && every (s .threads) (λ t. handAlone s states calls st test (callOf calls t)))
-      ≡ every (s .levels) (λ l. every (count s l) (λ b. eqb (holders s calls test l b) (bit (eqb (stateAt s states l b) st))))
-  unfolding blocks
+      ≡ oneToOne st test s states calls
+  unfolding blocks oneToOne
   corresponds st =
       ap₂ _&&_
       (ap (λ (n : ℕ). eqb (tally n (inState states st)) (tally (s .threads) (λ t. test (callOf calls t)))) (h .lent .states-long))

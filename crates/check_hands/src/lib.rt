@@ -9,8 +9,8 @@ ghost use Prim.Native.Nat.{_*_};
 ghost use lib.ListN.{length};
 ghost use Rattle.shape.specs.Limits.{allowed};
 ghost use Rattle.shape.specs.Blocks.{blocks};
-ghost use Rattle.rules.specs.Numbers.{CELLS, FREEING, ALLOCATING, DIVIDING, RELEASING};
-ghost use Rattle.rules.specs.Valid.{oneToOne};
+ghost use Rattle.rules.specs.Numbers.{CELLS, FREEING, ALLOCATING};
+ghost use Rattle.rules.specs.Valid.{dividing, releasing, oneToOne};
 ghost use Rattle.check_hands.specs.Hands.{handsInside, handKnown, atStage, holders, aloneWith, Lent};
 
 // How many calls at a stage have this block in hand.
@@ -41,7 +41,7 @@ fn alone(s: Shape, states: &[u8], calls: &[u64], c: Call, state: u8) -> bool
 // block of that state, and there are as many blocks as calls.
 pub fn hands_valid(s: Shape, states: &[u8], calls: &[u64]) -> bool
     requires { ⌜ (allowed s ≡ true) × (length (now states) ≡ blocks s) × (length (now calls) ≡ CELLS * s .threads) × (handsInside s (now calls) ≡ true) ⌝ }
-    ensures { λ r. ⌜ r ≡ (oneToOne ALLOCATING DIVIDING s (now (states .entry)) (now (calls .entry)) && oneToOne FREEING RELEASING s (now (states .entry)) (now (calls .entry))) ⌝ }
+    ensures { λ r. ⌜ r ≡ (oneToOne ALLOCATING dividing s (now (states .entry)) (now (calls .entry)) && oneToOne FREEING releasing s (now (states .entry)) (now (calls .entry))) ⌝ }
 {
     let mut ok = true;
     let mut sum = 0;

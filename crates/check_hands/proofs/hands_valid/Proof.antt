@@ -9,9 +9,8 @@ use borrow.Author.Needs.{needs}
 use borrow.Author.Tests.{eq-eqb}
 use Rattle.shape.specs.Laws.{limits}
 use Rattle.rules.specs.declared.Call.{Call}
-use Rattle.rules.specs.Numbers.{DIVIDING, RELEASING}
-use Rattle.rules.specs.Valid.{usesBlock}
-use Rattle.check_hands.specs.Hands.{atStage, Hands, hands, hand-at}
+use Rattle.rules.specs.Valid.{usesBlock, dividing, releasing}
+use Rattle.check_hands.specs.Hands.{Hands, hands, hand-at}
 use Rattle.check_hands.proofs.Passed.{Looked, looked-none, looked-most, looked-dividing, looked-releasing, looked-other, looked-all}
 use Rattle.check_hands.proofs.hands_valid.Statement.{statement}
 use Rattle.check_hands.proofs.hands_valid.Tie as tie
@@ -22,18 +21,18 @@ Inv-loop s states calls ok₀ sum₀ t₀ ok sum t = Looked s states calls ok su
 abbrev μ-loop : tie.MeasureT-loop
 μ-loop s states calls ok₀ sum₀ t₀ ok sum t = s .threads - t
 
-dividing-holds : (c : Call) → atStage DIVIDING c ≡ true → usesBlock c ≡ true
+dividing-holds : (c : Call) → dividing c ≡ true → usesBlock c ≡ true
 dividing-holds c e = rw e
 
-releasing-holds : (c : Call) → atStage RELEASING c ≡ true → usesBlock c ≡ true
+releasing-holds : (c : Call) → releasing c ≡ true → usesBlock c ≡ true
 releasing-holds c e = rw (e, or-true)
 
 -- blocks in hand are blocks of the shape
-dividing : (c : tie.Start Inv-loop μ-loop) → Hands (c .args .s) (c .args .states .now) (c .args .calls .now) (atStage DIVIDING)
-dividing c = hands _ _ _ (atStage DIVIDING) dividing-holds (c .pre)
+dividing-hands : (c : tie.Start Inv-loop μ-loop) → Hands (c .args .s) (c .args .states .now) (c .args .calls .now) dividing
+dividing-hands c = hands _ _ _ dividing dividing-holds (c .pre)
 
-releasing : (c : tie.Start Inv-loop μ-loop) → Hands (c .args .s) (c .args .states .now) (c .args .calls .now) (atStage RELEASING)
-releasing c = hands _ _ _ (atStage RELEASING) releasing-holds (c .pre)
+releasing-hands : (c : tie.Start Inv-loop μ-loop) → Hands (c .args .s) (c .args .states .now) (c .args .calls .now) releasing
+releasing-hands c = hands _ _ _ releasing releasing-holds (c .pre)
 
 loop-holds : tie.Need-loop-holds Inv-loop μ-loop
 loop-holds c = looked-none _ _ _
@@ -46,7 +45,7 @@ add-t c = omega arith
 
 alone-requires : tie.Need-alone-requires Inv-loop μ-loop
 alone-requires c κs =
-    let h = dividing (c .before .before .before .before .before .before .before .before) in
+    let h = dividing-hands (c .before .before .before .before .before .before .before .before) in
     (h .lent, hand-at h (c .before .before .before .before .before .loop .t) (c .before .before .call-of .result) (c .before .before .call-of .ensures) (c .before .before .before .if1 .taken) (eq-eqb _ _ (c .if2 .taken)))
 
 add-sum : tie.Need-add-sum Inv-loop μ-loop
@@ -62,7 +61,7 @@ loop-again c =
 
 alone-requires-2 : tie.Need-alone-requires-2 Inv-loop μ-loop
 alone-requires-2 c κs =
-    let h = releasing (c .before .before .before .before .before .before .before .before .before .before) in
+    let h = releasing-hands (c .before .before .before .before .before .before .before .before .before .before) in
     (h .lent, hand-at h (c .before .before .before .before .before .before .before .loop .t) (c .before .before .before .before .call-of .result) (c .before .before .before .before .call-of .ensures) (c .before .before .before .before .before .if1 .taken) (eq-eqb _ _ (c .if3 .taken)))
 
 add-sum-2 : tie.Need-add-sum-2 Inv-loop μ-loop
@@ -88,7 +87,7 @@ count-of-requires : tie.Need-count-of-requires Inv-loop μ-loop
 count-of-requires c κs = search needs
 
 returns : tie.Need-returns Inv-loop μ-loop
-returns c = looked-all (dividing (c .before .before .before .before .before .before)) (releasing (c .before .before .before .before .before .before)) (c .before .before .before .loop .inv) (c .before .if1 .left) (c .count-of .ensures)
+returns c = looked-all (dividing-hands (c .before .before .before .before .before .before)) (releasing-hands (c .before .before .before .before .before .before)) (c .before .before .before .loop .inv) (c .before .if1 .left) (c .count-of .ensures)
 
 pub hands-valid-spec : {M : Type 1} → statement M
 hands-valid-spec =

@@ -4,13 +4,14 @@ use Prim.Native.Nat.{_+_, _-_}
 use native.Mathlib.Omega.{arith}
 use mir.Val.{boolByte}
 use borrow.Author.Needs.{needs}
-use Rattle.check_hands.specs.Hands.{atStage, inHandOf}
+use Rattle.rules.specs.Valid.{inHand}
+use Rattle.check_hands.specs.Hands.{atStage}
 use Rattle.check_hands.proofs.Passed.{Passed, passed-none, passed-most, passed-more, passed-all}
 use Rattle.check_hands.proofs.holders.Statement.{statement}
 use Rattle.check_hands.proofs.holders.Tie as tie
 
 abbrev Inv-loop : tie.InvT-loop
-Inv-loop s calls stage level block sum₀ t₀ sum t = Passed s calls (inHandOf (atStage stage) level block) t sum
+Inv-loop s calls stage level block sum₀ t₀ sum t = Passed s calls (inHand (atStage stage) level block) t sum
 
 abbrev μ-loop : tie.MeasureT-loop
 μ-loop s calls stage level block sum₀ t₀ sum t = s .threads - t
@@ -20,7 +21,7 @@ more :
     (c : tie.After-call-of Inv-loop μ-loop) →
     let a = c .before .before .before .before .before .args in
     let turn = c .before .before .before .loop in
-    let test = inHandOf (atStage (a .stage)) (a .level) (a .block) in
+    let test = inHand (atStage (a .stage)) (a .level) (a .block) in
     Passed (a .s) (a .calls .now) test (turn .t + 1) (turn .sum + boolByte (test (c .call-of .result)))
 more c = passed-more _ (c .call-of .result) (c .before .before .before .loop .inv) (c .before .if1 .taken) (c .call-of .ensures)
 
