@@ -12,7 +12,7 @@ use borrow.Author.Tests.{leb-true}
 use Rattle.laws.specs.Tests.{bit, every, every-none, every-more, every-not, every-same, every-both, both-of}
 use Rattle.laws.specs.Lists.{times}
 use Rattle.shape.specs.declared.Shape.{Shape}
-use Rattle.shape.specs.Limits.{mostCount, allowed}
+use Rattle.shape.specs.Limits.{mostCount, allowed, mostBlocks, mostLevels}
 use Rattle.shape.specs.Blocks.{count, above, blocks}
 use Rattle.shape.specs.Laws.{limits, above-none, above-next, above-up, count-range, blocks-most}
 use Rattle.rules.specs.Numbers.{FREE}

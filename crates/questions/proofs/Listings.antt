@@ -14,7 +14,7 @@ use borrow.Author.Tests.{lt-ltb, ltb-true}
 use Rattle.laws.specs.Tests.{both}
 use Rattle.laws.specs.Sets.{sets-append}
 use Rattle.shape.specs.declared.Shape.{Shape}
-use Rattle.shape.specs.Limits.{parts}
+use Rattle.shape.specs.Limits.{parts, mostCount}
 use Rattle.shape.specs.Blocks.{id, place}
 use Rattle.shape.specs.Laws.{limits, parts-pos, count-next, count-range}
 use Rattle.rules.specs.Numbers.{DIVIDED}

@@ -7,7 +7,7 @@ use native.Mathlib.Omega.{arith}
 use lib.ListN.{length, take}
 use lib.Seq.{length-take-le}
 use Rattle.shape.specs.declared.Shape.{Shape}
-use Rattle.shape.specs.Limits.{allowed}
+use Rattle.shape.specs.Limits.{allowed, mostBlocks}
 use Rattle.shape.specs.Blocks.{blocks}
 use Rattle.shape.specs.Laws.{Limits, limits, blocks-most}
 use Rattle.rules.specs.declared.lengths.Lengths.{Lengths}

@@ -7,10 +7,10 @@ use Prim.Native.Nat.{ℕ, _+_, _*_, _/_, _≤_, _<_}
 use lib.ListN.{length}
 use Rattle.laws.specs.Sets.{Put}
 use Rattle.shape.specs.declared.Shape.{Shape}
-use Rattle.shape.specs.Limits.{allowed}
+use Rattle.shape.specs.Limits.{allowed, mostBlocks, mostLevels, mostThreads}
 use Rattle.rules.specs.declared.script.Record.the-variants.{Pool}
 use Rattle.rules.specs.declared.script.Read.{Read}
-use Rattle.rules.specs.Numbers.{MOST-BYTES}
+use Rattle.rules.specs.Numbers.{MOST-BYTES, CELLS}
 use Rattle.rules.specs.Tables.{State, fresh}
 use Rattle.facts.specs.Given.{LengthFacts}
 use Rattle.facts.specs.Lines.{Sound}

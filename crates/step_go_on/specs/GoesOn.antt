@@ -6,7 +6,7 @@ use Prim.Native.Nat.{ℕ, _+_, _*_, _-_, _≤_, _<_}
 use native.Mathlib.Omega.{arith}
 use lib.ListN.{getD}
 use Rattle.shape.specs.declared.Shape.{Shape}
-use Rattle.shape.specs.Limits.{parts, allowed}
+use Rattle.shape.specs.Limits.{parts, allowed, mostThreads}
 use Rattle.shape.specs.Blocks.{count, levelFor}
 use Rattle.shape.specs.Laws.{limits, parts-pos, levelFor-inside}
 use Rattle.shape.specs.Sections.{part-inside}

@@ -6,7 +6,7 @@ use mathlib.Core.List.{List}
 use Prim.Native.Nat.{ℕ, _+_, _-_, _≤_, _<_}
 use lib.ListN.{length, getD}
 use Rattle.shape.specs.declared.Shape.{Shape}
-use Rattle.shape.specs.Limits.{parts, allowed}
+use Rattle.shape.specs.Limits.{parts, allowed, mostThreads}
 use Rattle.shape.specs.Blocks.{count, blocks, levelFor}
 use Rattle.rules.specs.declared.Call.{Call}
 use Rattle.rules.specs.Tables.{freeList}

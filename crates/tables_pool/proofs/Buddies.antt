@@ -10,7 +10,7 @@ use lib.Dec.{eqb}
 use borrow.Author.Tests.{lt-ltb}
 use Rattle.laws.specs.Tests.{every, every-same}
 use Rattle.shape.specs.declared.Shape.{Shape}
-use Rattle.shape.specs.Limits.{parts}
+use Rattle.shape.specs.Limits.{parts, mostCount}
 use Rattle.shape.specs.Blocks.{count, place}
 use Rattle.shape.specs.Laws.{limits, parts-pos, count-range}
 use Rattle.shape.specs.Sections.{part-inside, buddy-inside, buddies-placed}

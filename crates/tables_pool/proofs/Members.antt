@@ -16,6 +16,7 @@ use Rattle.shape.specs.Laws.{limits, count-range}
 use Rattle.rules.specs.Tables.{section, freeList, putList}
 use Rattle.facts.specs.Lists.{ListReady, section-inside, section-row, length-freeList, length-put, freeList-put, putList-put, putList-same, ready-put}
 use Rattle.tables_pool.specs.Row.{Ended}
+use Rattle.shape.specs.Limits.{mostCount}
 
 -- a part of a list that comes back changed
 put-back :

@@ -10,7 +10,7 @@ ghost use mathlib.Core.List.{[], _∷_, _++_};
 ghost use Prim.Native.Nat.{_+_, _-_, _≤_, _<_};
 ghost use lib.ListN.{length, getD, drop};
 ghost use Rattle.laws.specs.Lists.{keep, upFrom};
-ghost use Rattle.shape.specs.Limits.{parts, allowed};
+ghost use Rattle.shape.specs.Limits.{parts, mostLevels, mostBlocks, allowed};
 ghost use Rattle.shape.specs.Blocks.{count};
 ghost use Rattle.rules.specs.Tables.{section, freeList, putList};
 ghost use Rattle.rules.specs.Steps.{deepest};

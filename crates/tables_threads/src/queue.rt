@@ -2,6 +2,7 @@ ghost use mathlib.Core.Path.{_≡_};
 ghost use mathlib.Core.List.{[], _∷_, _++_};
 ghost use Prim.Native.Nat.{_+_, _-_, _≤_, _<_};
 ghost use lib.ListN.{length, getD};
+ghost use Rattle.shape.specs.Limits.{mostThreads};
 ghost use Rattle.rules.specs.Tables.{queueOf, putQueue};
 ghost use Rattle.facts.specs.Queue.{QueueReady};
 
