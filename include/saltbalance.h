@@ -86,7 +86,7 @@ typedef struct saltbalance_device {
 /* ---- Stack -------------------------------------------------------------------------------------------------------------------- */
 
 /* No call was seen to take more bytes of stack, its return address included, its arguments not; examples/c/stack.c measures it. */
-#define SALTBALANCE_STACK 6400
+#define SALTBALANCE_STACK 1200
 
 /* ---- Waits -------------------------------------------------------------------------------------------------------------------- */
 
