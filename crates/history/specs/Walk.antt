@@ -7,7 +7,7 @@ use Prim.Native.Nat.{ℕ, _+_, _≤_, _<_}
 use native.Mathlib.Decide.{decLt, ℕ-discrete}
 use native.Mathlib.Omega.{arith}
 use lib.IntN.{ℤ}
-use lib.ListN.{getD}
+use lib.ListN.{getD, length}
 use lib.Dec.{eqb}
 use borrow.Author.Tests.{ltb-true, ltb-false, lt-ltb, eqb-true, eqb-false, eq-eqb, ne-eqb, not-false}
 use Rattle.shape.specs.declared.Shape.{Shape}
@@ -27,7 +27,7 @@ use Rattle.rules.specs.Tables.{State, lent, stateAt, freeList, callOf, fresh}
 use Rattle.rules.specs.Steps.{Outcome, outcome, onlyCall, closed, moved, blocked, deepest, noRoom, lookAt, look, takeFrom, takeStep, splitStep, grantStep, divideStep, merges, mergeStep, settleStep, releaseStep, goOnStep}
 use Rattle.rules.specs.declared.Verdict.{Verdict}
 use Rattle.rules.specs.Refusals.{through, checked, refused, refuse, byRunning, idOutside, running, heldBy, failing}
-use Rattle.rules.specs.Calls.{build, askedCall, isOutside, askStep, ask, goOn, given, giveStep, give, onlyDevice, switchStep, switch, ticked, tickStep, tick}
+use Rattle.rules.specs.Calls.{build, askedCall, isOutside, askStep, ask, goOn, given, giveStep, give, onlyDevice, switchStep, switch, ticked, tickStep, tick, dueAt}
 use Rattle.facts.specs.Verdict.{by-fitting, by-verdict}
 use Rattle.rules.specs.Questions.{isWhole, whole}
 use Rattle.facts.specs.Lines.{Sound}
@@ -77,7 +77,9 @@ pub record EachStep (P : Step → Outcome → Type 0) (s : Shape) (T : State) : 
   pub switches :
       (t : ℕ) → t < s .threads → (callOf (T .threads .calls) t .stage ≡ WAITING → ⊥) →
       P (Switch t) (outcome Switched (onlyDevice T (T .threads .device .clock) (t + 1)))
-  pub ticks : (n : ℕ) → Sound s T → P Tick (outcome (Ticked n) (lent (T .pool) (ticked s (T .threads))))
+  pub ticks :
+      Sound s T →
+      P Tick (outcome (Ticked (length (dueAt (T .threads) (T .threads .device .clock + 1)))) (lent (T .pool) (ticked s (T .threads))))
   pub whole : P Whole (outcome answers.Whole T)
   pub not-whole : P Whole (outcome answers.NotWhole T)
 
@@ -215,7 +217,7 @@ module _ (P : Step → Outcome → Type 0) (s : Shape) (T : State) (e : EachStep
       past P s T e (Switch t) _ _ _ refl (omega arith) (λ w. e .switches t (ltb-true _ _ (not-false _ h)) (eqb-false _ _ w))))
   each-step Tick =
       past-checked P s T e Tick _ refl refl refl (λ v.
-      past P s T e Tick (eqb (T .threads .device .clock) CLOCK-END) _ _ refl (omega arith) (λ _. e .ticks _ v))
+      past P s T e Tick (eqb (T .threads .device .clock) CLOCK-END) _ _ refl (omega arith) (λ _. e .ticks v))
   each-step Whole =
       by-verdict (λ v. P Whole (outcome (through Refused v (cond (isWhole s T) answers.Whole answers.NotWhole)) T))
       (λ n. e .stays Whole ShapeNotAllowed refl (λ g. absurd (n g)))

@@ -1,7 +1,7 @@
 -- Demand 2: the pool is called whole exactly when all its bytes are free and no thread has a call open.
 -- Assumes nothing.
-use mathlib.Core.Path.{_≡_, sym, _∙_}
-use mathlib.Core.Bool.{true, false}
+use mathlib.Core.Path.{_≡_, refl, sym, _∙_}
+use mathlib.Core.Bool.{true, false, Bool, cond}
 use mathlib.Core.Logic.{_↔_}
 use Prim.Native.Nat.{ℕ, _<_}
 use native.Mathlib.Omega.{arith}
@@ -13,10 +13,17 @@ use Rattle.shape.specs.Limits.{allowed}
 use Rattle.shape.specs.Blocks.{size, bytes}
 use Rattle.shape.specs.Laws.{Limits, limits, count-top, size-top}
 use Rattle.rules.specs.Numbers.{FREE, CLOSED}
+use Rattle.rules.specs.declared.Refusal.{Refusal}
+use Rattle.rules.specs.declared.Answer.{Answer}
+use Rattle.rules.specs.declared.Answer.the-variants.{Refused}
+use Rattle.rules.specs.declared.Answer.the-variants as answers
+use Rattle.rules.specs.Refusals.{through}
+use Rattle.facts.specs.Lines.{Sound}
+use Rattle.facts.specs.Verdict.{by-verdict, passes}
 use Rattle.rules.specs.Tables.{State, stateAt, callOf}
 use Rattle.rules.specs.Valid.{valid}
 use Rattle.facts.specs.Lines.{valid-facts}
-use Rattle.rules.specs.Questions.{isWhole}
+use Rattle.rules.specs.Questions.{isWhole, whole}
 use Rattle.proved_bytes.specs.Runs.{Free}
 use Rattle.proved_bytes.specs.Room.{all-free}
 use Rattle.proved_bytes.specs.Tables.{stateIn, state-inside, state-known, sizesOf, treeOf}
@@ -80,3 +87,36 @@ open-call-not-whole s T t h n = sym (fails (isWhole s T) closed-then)
         (both (every (s .tops) (λ b. eqb (stateAt s (T .pool .states) 0 b) FREE)) _ e .1)
         t
         h))
+
+-- a refusal is no answer that all is whole, nor is the other answer
+refusal-apart : (r : Refusal) → Refused r ≡ answers.Whole → ⊥
+refusal-apart r e = let z : _≡_ {A = ℕ} 0 1 = cc in omega arith
+
+answer-apart : answers.NotWhole ≡ answers.Whole → ⊥
+answer-apart e = let z : _≡_ {A = ℕ} 0 1 = cc in omega arith
+
+-- demand 2, of the public call: for all shapes and tables the answer is that the pool is whole exactly if the tables are sound, all bytes
+-- are free and no thread has a call open
+pub whole-answer : (s : Shape) (T : State) → (whole s T ≡ answers.Whole) ↔ (Sound s T × Whole s T)
+unfolding whole
+whole-answer s T = (
+  by-verdict (λ v. through Refused v (told (isWhole s T)) ≡ answers.Whole → Sound s T × Whole s T)
+      (λ _ e. absurd (refusal-apart _ e))
+      (λ _ e. absurd (refusal-apart _ e))
+      (λ _ e. absurd (refusal-apart _ e))
+      (λ g e. (g, whole-bytes s T (g .shape) (g .valid) .0 (said (isWhole s T) e))),
+  λ (g, w). rw (passes g, whole-bytes s T (g .shape) (g .valid) .1 w),
+)
+  where
+    told : Bool → Answer
+    told b = cond b answers.Whole answers.NotWhole
+
+    said : (b : Bool) → told b ≡ answers.Whole → b ≡ true
+    said true e = refl
+    said false e = absurd (answer-apart e)
+
+-- the accident, of the public call: with a call open at any stage the pool is never called whole, whatever the tables
+pub open-call-never-whole :
+    (s : Shape) (T : State) (t : ℕ) → t < s .threads → (callOf (T .threads .calls) t .stage ≡ CLOSED → ⊥) →
+    whole s T ≡ answers.Whole → ⊥
+open-call-never-whole s T t h n e = n (whole-answer s T .0 e .1 .closed t h)

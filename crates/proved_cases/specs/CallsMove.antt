@@ -108,7 +108,7 @@ steps-move s T =
       goes = λ t g. go-on-moves s T t _ g;
       gives = λ t i g o p a w _. moves-one (T .pool .states) (place s (idLevel i) (idBlock i)) ALLOCATED FREEING a refl;
       switches = λ t h w _. moves-none _;
-      ticks = λ n v _. moves-none _;
+      ticks = λ v _. moves-none _;
       whole = λ _. moves-none _;
       not-whole = λ _. moves-none _;
     })

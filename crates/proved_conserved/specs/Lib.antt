@@ -2,3 +2,4 @@ pub mod Pairs
 pub mod Partition
 pub mod Each
 pub mod Conservation
+pub mod Answered

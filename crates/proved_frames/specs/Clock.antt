@@ -55,7 +55,7 @@ steps-record s T =
       goes = λ t g. go-on-record s T t _;
       gives = λ t i g o p a w. inl refl;
       switches = λ t h w. inr (inr (inr (inl (t, refl, refl))));
-      ticks = λ n k. inr (inr (inl (refl, refl)));
+      ticks = λ k. inr (inr (inl (refl, refl)));
       whole = inl refl;
       not-whole = inl refl;
     })

@@ -1,3 +1,4 @@
 pub mod Clock
 pub mod Others
 pub mod Held
+pub mod Woken

@@ -111,7 +111,7 @@ module _ (s : Shape) (T : State) (u : ℕ) (h : u < s .threads) where
         goes = λ t g. go-on-others t _ (facts (g .sound));
         gives = λ t i g o p a w n _. inl (put t _ n);
         switches = λ t h w _ _. inl refl;
-        ticks = λ n k _ _. ticked-stays _ (facts k);
+        ticks = λ k _ _. ticked-stays _ (facts k);
         whole = λ _ _. inl refl;
         not-whole = λ _ _. inl refl;
       }

@@ -109,7 +109,7 @@ module _ (s : Shape) (T : State) where
         goes = go-on-fits;
         gives = λ t j g o p a w. other _ (λ i e. cc);
         switches = λ t h w. other _ (λ i e. cc);
-        ticks = λ n v. other _ (λ i e. cc);
+        ticks = λ v. other _ (λ i e. cc);
         whole = other _ (λ i e. cc);
         not-whole = other _ (λ i e. cc);
       })

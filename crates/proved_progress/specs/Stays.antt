@@ -74,7 +74,7 @@ module _ (s : Shape) (T : State) (u : ℕ) (h : u < s .threads) (opened : callOf
         goes = λ t g. every-way (λ o m n. absurd (turned t (g .running) m n));
         gives = λ t i g o p a w m n. absurd (shut t o m);
         switches = λ t k w m n. refl;
-        ticks = λ n v m e. absurd (omega arith);
+        ticks = λ v m e. absurd (omega arith);
         whole = λ m n. refl;
         not-whole = λ m n. refl;
       })

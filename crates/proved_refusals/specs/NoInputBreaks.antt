@@ -112,7 +112,7 @@ steps-end s T =
       goes = λ t g. go-on-ends s T t _;
       gives = λ t i g o p a w. made T _ _ refl (λ r e. cc);
       switches = λ t h w. made T _ _ refl (λ r e. cc);
-      ticks = λ n v. made T _ _ refl (λ r e. cc);
+      ticks = λ v. made T _ _ refl (λ r e. cc);
       whole = made T _ _ refl (λ r e. cc);
       not-whole = made T _ _ refl (λ r e. cc);
     })

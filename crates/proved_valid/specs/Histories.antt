@@ -54,7 +54,7 @@ each-kept {s} {T} k =
       goes = λ t g. go-on-kept g;
       gives = λ t i g o p a w. give-kept g i o p a;
       switches = λ t h w. switch-kept s T t (facts k) h w;
-      ticks = λ n v. tick-kept s T (facts k);
+      ticks = λ v. tick-kept s T (facts k);
       whole = facts k;
       not-whole = facts k;
     }

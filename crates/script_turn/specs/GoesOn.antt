@@ -57,7 +57,7 @@ steps-go-on {s} {T} g =
       goes = λ t g. go-on-goes-on s T t _;
       gives = λ t i g o p a w. record { on = refl };
       switches = λ t h w. record { on = refl };
-      ticks = λ n v. record { on = refl };
+      ticks = λ v. record { on = refl };
       whole = record { on = refl };
       not-whole = record { on = refl };
     })
