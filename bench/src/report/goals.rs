@@ -44,7 +44,7 @@ const WHY: &str = "Where the proved code is the slower one, this is why:
 
 - **map** has the form that document 01 names: listing a block calls listing its parts, which calls listing a block, a call for each \
 block and one for each divided block. Plain C lists in one loop for each divided block.
-- **Small shapes:** the check of the blocks in hand clears marks for the most blocks that any shape has, whatever the shape.
+- **Lists:** marks are bits, and those of the largest level are cleared for each level, so that a call takes little stack.
 - **The program's start:** the whole listing is proved as one run of bytes in one buffer that holds the longest listing, and the pages of \
 that buffer are touched before the first record is read. Plain C flushes a small buffer.
 

@@ -7,17 +7,21 @@ use Prim.Native.Nat.{ℕ}
 use lib.IntN.{pos, negsuc}
 use lib.ListN.{replicate}
 use Rattle.shape.specs.declared.Shape.{Shape}
-use Rattle.shape.specs.Blocks.{size, levelFor, id, offset, bytes}
+use Rattle.shape.specs.Blocks.{size, levelFor, id, offset}
 use Rattle.shape.specs.Time.{ticks}
-use Rattle.rules.specs.Numbers.{ALLOCATED, FREE, DIVIDED}
+use Rattle.rules.specs.Numbers.{ALLOCATED, FREE, DIVIDED, FOUND}
 use Rattle.rules.specs.Tables.{State, state, freeList, callOf}
 use Rattle.proved_cases.specs.Table.{Case, row, same, agree, Holds, agree-holds}
 use Rattle.history.specs.History.{Step, Build, Ask, GoOn, Give, Switch, Tick, Whole}
-use Rattle.proved_cases.specs.Computed.{everyRule, after, numberOn, numberAfter, detailAfter, freeAfter}
+use Rattle.proved_cases.specs.Computed.{everyRule, after, numberOn, numberAfter, detailAfter, freeAfter, roomAfter, coverOn, mapOn}
 
 -- pool 1 with one top block of 64 bytes, or of 1,024, and this number of levels
 abbrev pub of64 : ℕ → Shape
 of64 levels = record { pool = 1; threads = 2; levels = levels; tops = 1; «top_size» = 64 }
+
+-- with two top blocks
+abbrev pub twoOf64 : ℕ → Shape
+twoOf64 levels = record { pool = 1; threads = 2; levels = levels; tops = 2; «top_size» = 64 }
 
 abbrev pub of1024 : ℕ → Shape
 of1024 levels = record { pool = 1; threads = 2; levels = levels; tops = 1; «top_size» = 1024 }
@@ -38,6 +42,10 @@ waited n = Switch 1 ∷ Ask 1 16 (pos 90) ∷ replicate n Tick
 -- thread 0 has the top block, and thread 1 asks so
 abbrev pub full : List Step
 full = (Switch 0 ∷ asking 64 3) ++ waited 9
+
+-- thread 0 asks for 16 bytes, and a level is found
+abbrev pub found : List Step
+found = Switch 0 ∷ asking 16 1
 
 -- a divided top block whose parts have these states, owners and free list; no calls, nobody running
 abbrev pub divided : List ℕ → List ℕ → List ℕ → State
@@ -74,20 +82,30 @@ cases =
     -- P8 one top block, sizes 1,024 and 256; quarters 0, 1, 2 granted, 0 then 1 given back: list 3, 0, 1
     ∷ row (freeList (of1024 2) (after (of1024 2) quarters .pool .lists) 1) (3 ∷ 0 ∷ 1 ∷ [])
     -- with 768 bytes free, 257 finds no room
-    ∷ row (freeAfter (of1024 2) quarters 1 ∷ numberAfter (of1024 2) (quarters ++ asking 257 0) (GoOn 0) ∷ []) (768 ∷ 14 ∷ [])
+    ∷ row
+    (freeAfter (of1024 2) quarters ∷ roomAfter (of1024 2) quarters 257 ∷ numberAfter (of1024 2) (quarters ++ asking 257 0) (GoOn 0) ∷ [])
+    (768 ∷ 0 ∷ 14 ∷ [])
     -- P9 256 gets quarter 3: granted, with its id
     ∷ row (numberAfter (of1024 2) (quarters ++ asking 256 2) (GoOn 0) ∷ []) (45 ∷ [])
-    ∷ row (detailAfter (of1024 2) (quarters ++ asking 256 2) (GoOn 0) ∷ []) (id (of1024 2) 1 3 ∷ [])
+    ∷ row (detailAfter (of1024 2) (quarters ++ asking 256 2) (GoOn 0) ∷ []) (12545 ∷ [])
     -- P10 deadline 9, clock 9, no room → 15
     ∷ row (callOf (after (of64 2) full .threads .calls) 1 .deadline ∷ after (of64 2) full .threads .device .clock ∷ []) (9 ∷ 9 ∷ [])
-    ∷ row (freeAfter (of64 2) full 0 ∷ numberAfter (of64 2) full (GoOn 1) ∷ []) (0 ∷ 15 ∷ [])
+    ∷ row (roomAfter (of64 2) full 16 ∷ numberAfter (of64 2) full (GoOn 1) ∷ []) (0 ∷ 15 ∷ [])
     -- at clock 10 → 15 even with room; at clock 9 room is found
-    ∷ row (freeAfter (of64 2) (waited 10) 0 ∷ numberAfter (of64 2) (waited 10) (GoOn 1) ∷ []) (64 ∷ 15 ∷ [])
-    ∷ row (freeAfter (of64 2) (waited 9) 0 ∷ numberAfter (of64 2) (waited 9) (GoOn 1) ∷ []) (64 ∷ 41 ∷ [])
+    ∷ row (roomAfter (of64 2) (waited 10) 16 ∷ numberAfter (of64 2) (waited 10) (GoOn 1) ∷ []) (64 ∷ 15 ∷ [])
+    ∷ row (roomAfter (of64 2) (waited 9) 16 ∷ numberAfter (of64 2) (waited 9) (GoOn 1) ∷ []) (64 ∷ 41 ∷ [])
     -- P11 all bytes free, a call found: not whole
-    ∷ row (freeAfter (of64 2) (Switch 0 ∷ asking 16 1) 0 ∷ []) (bytes (of64 2) ∷ [])
-    ∷ row (numberAfter (of64 2) (Switch 0 ∷ asking 16 1) Whole ∷ []) (52 ∷ [])
+    ∷ row (freeAfter (of64 2) found ∷ callOf (after (of64 2) found .threads .calls) 0 .stage ∷ []) (64 ∷ FOUND ∷ [])
+    ∷ row (numberAfter (of64 2) found Whole ∷ []) (52 ∷ [])
+    -- and with two top blocks
+    ∷ row (freeAfter (twoOf64 2) found ∷ callOf (after (twoOf64 2) found .threads .calls) 0 .stage ∷ []) (128 ∷ FOUND ∷ [])
+    ∷ row (numberAfter (twoOf64 2) found Whole ∷ []) (52 ∷ [])
     -- P12 four FREE buddies in the tables: refusal 3; with one of them ALLOCATED the tables are taken
+    ∷ row (numberOn (of64 2) fourFree (Ask 0 16 (pos 0)) ∷ numberOn (of64 2) threeFree (Ask 0 16 (pos 0)) ∷ []) (3 ∷ 5 ∷ [])
+    ∷ row (numberOn (of64 2) fourFree (GoOn 0) ∷ numberOn (of64 2) threeFree (GoOn 0) ∷ []) (3 ∷ 5 ∷ [])
+    ∷ row (numberOn (of64 2) fourFree (Give 0 257) ∷ numberOn (of64 2) threeFree (Give 0 257) ∷ []) (3 ∷ 5 ∷ [])
+    ∷ row (coverOn (of64 2) fourFree 0 ∷ coverOn (of64 2) threeFree 0 ∷ []) (3 ∷ 0 ∷ [])
+    ∷ row (mapOn (of64 2) fourFree (replicate 4 0) ∷ mapOn (of64 2) threeFree (replicate 4 0) ∷ []) (3 ∷ 0 ∷ [])
     ∷ row (numberOn (of64 2) fourFree (Switch 0) ∷ numberOn (of64 2) threeFree (Switch 0) ∷ []) (3 ∷ 49 ∷ [])
     ∷ row (numberOn (of64 2) fourFree Tick ∷ numberOn (of64 2) threeFree Tick ∷ []) (3 ∷ 50 ∷ [])
     ∷ row (numberOn (of64 2) fourFree Whole ∷ numberOn (of64 2) threeFree Whole ∷ []) (3 ∷ 52 ∷ [])
