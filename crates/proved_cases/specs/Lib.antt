@@ -6,3 +6,4 @@ pub mod Moves
 pub mod StepsMove
 pub mod CallsMove
 pub mod Made
+pub mod Ends
