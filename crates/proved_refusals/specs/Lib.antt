@@ -1,1 +1,2 @@
 pub mod NoInputBreaks
+pub mod First
