@@ -1,4 +1,6 @@
 // Whether each call by itself is one of a valid state.
+#![tactic(auto)]
+
 pub mod call;
 
 ghost use Rattle.std.specs.Prelude.{◌≡◌, true, ◌*◌, ◌<◌, ◌^◌, length};

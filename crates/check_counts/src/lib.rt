@@ -1,4 +1,6 @@
 // How many blocks are in one of two states.
+#![tactic(auto)]
+
 ghost use Rattle.std.specs.Prelude.{◌≡◌, ◌≤◌, length};
 ghost use Rattle.check_counts.specs.Counted.{few, counted};
 

@@ -1,4 +1,6 @@
 // Decides what validity says of the free lists, in time linear in the tables.
+#![tactic(auto)]
+
 mod marks;
 
 ghost use Rattle.std.specs.Prelude.{◌≡◌, true, ◌&&◌, ◌+◌, ◌≤◌, length};

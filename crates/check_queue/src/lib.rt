@@ -1,4 +1,6 @@
 // Whether the queue and the running thread are those of a valid state.
+#![tactic(auto)]
+
 mod queue;
 
 ghost use Rattle.std.specs.Prelude.{◌≡◌, ◌&&◌, ◌+◌, ◌*◌, length};

@@ -1,4 +1,6 @@
 // The check that every public call but build begins with: the shape, the lengths of the tables, and whether they are a valid state.
+#![tactic(auto)]
+
 ghost use Rattle.std.specs.Prelude.{◌≡◌, true};
 ghost use Rattle.shape.specs.Limits.{allowed};
 ghost use Rattle.rules.specs.Tables.{state, lengths};

@@ -1,4 +1,6 @@
 // The lines of validity about blocks: their states, their owners and the tree that they form, decided by passes without branches.
+#![tactic(auto)]
+
 ghost use Rattle.std.specs.Prelude.{◌≡◌, true, not, ◌&&◌, ◌+◌, ◌-◌, max, ◌≤◌, length, get_or, eqb};
 ghost use Rattle.laws.specs.Tests.{every};
 ghost use Rattle.shape.specs.Limits.{allowed};

@@ -1,4 +1,6 @@
 // The pool's public calls: each takes any numbers and any tables, and makes its step or gives the listed refusal.
+#![tactic(auto)]
+
 ghost use Rattle.std.specs.Prelude.{◌≡◌};
 ghost use Rattle.rules.specs.Tables.{state};
 ghost use Rattle.rules.specs.Steps.{outcome};

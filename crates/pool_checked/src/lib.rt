@@ -1,5 +1,7 @@
 // The nine calls on any tables, each the verdict on the tables and then its step or its answer. A call that may change the record takes
 // it by value and gives it back with the answer; the public calls of crate `pool` lend it.
+#![tactic(auto)]
+
 ghost use Rattle.std.specs.Prelude.{◌≡◌};
 ghost use Rattle.rules.specs.Tables.{state};
 ghost use Rattle.rules.specs.Steps.{outcome};

@@ -1,4 +1,6 @@
 // The calls on tables that are known to be sound: the refusals from the fourth on, and then the step.
+#![tactic(auto)]
+
 ghost use Rattle.std.specs.Prelude.{◌≡◌, List, ℕ};
 ghost use Rattle.rules.specs.Tables.{state};
 ghost use Rattle.facts.specs.Lines.{Sound};

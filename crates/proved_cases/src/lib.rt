@@ -1,4 +1,6 @@
 // Theorems about the rules alone: the paper's cases, and the moves of the six states. The only code is the table of moves.
+#![tactic(auto)]
+
 ghost use Rattle.std.specs.Prelude.{◌≡◌, ◌<◌};
 ghost use Rattle.rules.specs.Moves.{may_move};
 

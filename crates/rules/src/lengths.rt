@@ -6,7 +6,7 @@ use crate::CELLS;
 use shape::Shape;
 
 #[repr(C)]
-#[derive(Drop)]
+#[derive(Clone, Copy)]
 pub struct Lengths {
     pub states: usize,
     pub owners: usize,

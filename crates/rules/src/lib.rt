@@ -1,4 +1,6 @@
 // The words of document 01 as types: the record of clock and running thread, a thread's call, the answers.
+#![tactic(auto)]
+
 pub mod answers;
 pub mod lengths;
 pub mod script;
@@ -46,14 +48,14 @@ pub const CLOCK_END: u32 = 4294967295;
 
 // The clock, and who runs: 0 for nobody, t + 1 for thread t.
 #[repr(C)]
-#[derive(Drop)]
+#[derive(Clone, Copy)]
 pub struct Device {
     pub clock: u32,
     pub running: u32,
 }
 
 // A thread's call. The level is the found level, or the level of the block in hand.
-#[derive(Drop)]
+#[derive(Clone, Copy)]
 pub struct Call {
     pub stage: usize,
     pub size: usize,
@@ -108,14 +110,14 @@ impl Call {
 }
 
 // The deepest level with room.
-#[derive(Drop)]
+#[derive(Clone, Copy)]
 pub enum Room {
     At(usize),
     Nowhere,
 }
 
 // Why a call is refused, in the order in which refusals are tried.
-#[derive(Drop)]
+#[derive(Clone, Copy)]
 pub enum Refusal {
     ShapeNotAllowed,
     WrongLength,
@@ -139,7 +141,7 @@ pub enum Refusal {
 }
 
 // What a step answers.
-#[derive(Drop)]
+#[derive(Clone, Copy)]
 pub enum Answer {
     Refused(Refusal),
     Opened,
@@ -159,28 +161,28 @@ pub enum Answer {
 }
 
 // What cover answers: the undivided existing block over an offset.
-#[derive(Drop)]
+#[derive(Clone, Copy)]
 pub enum Covered {
     Refused(Refusal),
     Block { id: usize, state: u8 },
 }
 
 // What map answers: how many blocks it listed.
-#[derive(Drop)]
+#[derive(Clone, Copy)]
 pub enum Mapped {
     Refused(Refusal),
     Blocks(usize),
 }
 
 // A step's answer, and the record as it leaves it.
-#[derive(Drop)]
+#[derive(Clone, Copy)]
 pub struct Ran {
     pub answer: Answer,
     pub device: Device,
 }
 
 // Whether a check lets a call go on.
-#[derive(Drop)]
+#[derive(Clone, Copy)]
 pub enum Verdict {
     Passed,
     Failed(Refusal),

@@ -3,7 +3,7 @@ use shape::Shape;
 use shape::time::Millis;
 
 // A record in the form in which it stood: an ask with its wait, or without one.
-#[derive(Drop)]
+#[derive(Clone, Copy)]
 pub enum Record {
     Pool(Shape),
     Ask {
@@ -26,14 +26,14 @@ pub enum Record {
 }
 
 // What a tag and a value say.
-#[derive(Drop)]
+#[derive(Clone, Copy)]
 pub enum Decoded {
     Good(Record),
     Bad,
 }
 
 // What reading at an offset finds: a record and where the next one starts.
-#[derive(Drop)]
+#[derive(Clone, Copy)]
 pub enum Read {
     Record(Record, usize),
     Bad,

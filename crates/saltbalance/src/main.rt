@@ -1,4 +1,6 @@
 // Runs the script on standard input and writes its listing. One byte more than a script may have is read, so that a longer one is told.
+#![tactic(auto)]
+
 use rules::script::MOST_BYTES;
 use script_run::LISTING_MOST;
 

@@ -1,4 +1,6 @@
 // The pool for C: the calls of crate `pool`, each with its answer in numbers. The header is include/saltbalance.h.
+#![tactic(auto)]
+
 pub mod said;
 
 ghost use Rattle.std.specs.Prelude.{◌≡◌};

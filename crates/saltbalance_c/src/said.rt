@@ -6,7 +6,7 @@ use rules::{Answer, Covered, Mapped, answers};
 
 // An answer: its number and its detail.
 #[repr(C)]
-#[derive(Drop)]
+#[derive(Clone, Copy)]
 pub struct Said {
     pub number: usize,
     pub detail: usize,
@@ -14,7 +14,7 @@ pub struct Said {
 
 // What cover answers: refusal 0, the block's id and its state; or a refusal, and zeros.
 #[repr(C)]
-#[derive(Drop)]
+#[derive(Clone, Copy)]
 pub struct CoveredBlock {
     pub refusal: usize,
     pub id: usize,
@@ -23,7 +23,7 @@ pub struct CoveredBlock {
 
 // What map answers: refusal 0 and the number of ids in the row; or a refusal, and zero.
 #[repr(C)]
-#[derive(Drop)]
+#[derive(Clone, Copy)]
 pub struct MappedBlocks {
     pub refusal: usize,
     pub blocks: usize,

@@ -5,7 +5,7 @@ ghost use Rattle.script_read.specs.Framing.{framed};
 use crate::numbers::number_at;
 
 // The tag of a field, and from where to where its value stands.
-#[derive(Drop)]
+#[derive(Clone, Copy)]
 pub struct Field {
     pub tag: u8,
     pub start: usize,
@@ -13,7 +13,7 @@ pub struct Field {
 }
 
 // What is found at an offset.
-#[derive(Drop)]
+#[derive(Clone, Copy)]
 pub enum Framed {
     Uncut(Field),
     Cut,

@@ -1,4 +1,6 @@
 // A script that is lent: what stands at an offset of it.
+#![tactic(auto)]
+
 pub mod fields;
 pub mod numbers;
 pub mod records;

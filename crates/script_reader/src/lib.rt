@@ -1,4 +1,6 @@
 // The script reader: the script, and the reader's place in it.
+#![tactic(auto)]
+
 ghost use Rattle.std.specs.Prelude.{◌≡◌, true};
 ghost use Rattle.rules.specs.Script.{uncut, value_at, read_at};
 
@@ -7,7 +9,7 @@ use script_read::fields;
 use script_read::numbers::number_at;
 
 // A script that is lent, and a place in it.
-#[derive(Drop)]
+#[derive(Clone, Copy)]
 pub struct Reader<'a> {
     pub script: &'a [u8],
     pub at: usize,

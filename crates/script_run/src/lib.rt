@@ -1,4 +1,6 @@
 // A whole script to its whole listing.
+#![tactic(auto)]
+
 mod first;
 
 ghost use Rattle.std.specs.Prelude.{◌≡◌, ◌≤◌, length};

@@ -1,4 +1,6 @@
 // One record of a script, on tables that are known to be sound.
+#![tactic(auto)]
+
 ghost use Rattle.std.specs.Prelude.{◌≡◌, false};
 ghost use Rattle.rules.specs.Tables.{state};
 ghost use Rattle.facts.specs.Lines.{Sound};

@@ -1,4 +1,6 @@
 // The shape of a pool and what follows from it; the two units of time.
+#![tactic(auto)]
+
 pub mod ids;
 pub mod time;
 
@@ -7,7 +9,7 @@ ghost use Rattle.shape.specs.Limits.{parts, most_levels, most_count, most_blocks
 ghost use Rattle.shape.specs.Blocks.{size, count, offset, level_for, id, above, place, blocks, bytes};
 
 #[repr(C)]
-#[derive(Drop)]
+#[derive(Clone, Copy)]
 pub struct Shape {
     pub pool: usize,
     pub threads: usize,

@@ -2,14 +2,14 @@
 ghost use Rattle.std.specs.Prelude.{◌≡◌, ◌≤◌};
 ghost use Rattle.shape.specs.Time.{longest, ticks, wait};
 
-#[derive(Drop)]
+#[derive(Clone, Copy)]
 pub struct Millis(pub i32);
 
-#[derive(Drop)]
+#[derive(Clone, Copy)]
 pub struct Ticks(pub u64);
 
 // How long an ask may wait.
-#[derive(Drop)]
+#[derive(Clone, Copy)]
 pub enum Wait {
     Never,
     Forever,

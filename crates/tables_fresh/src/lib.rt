@@ -1,4 +1,6 @@
 // Lent tables made fresh: the top blocks FREE and listed 0 upward, no calls, nobody in the queue.
+#![tactic(auto)]
+
 ghost use Rattle.std.specs.Prelude.{◌≡◌, true, ◌++◌, ◌+◌, ◌≤◌, length, drop, replicate};
 ghost use Rattle.shape.specs.Limits.{allowed};
 ghost use Rattle.shape.specs.Blocks.{blocks};

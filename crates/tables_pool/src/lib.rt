@@ -1,4 +1,6 @@
 // The free lists of the levels in a lent row of numbers, and the blocks' states in another.
+#![tactic(auto)]
+
 mod rows;
 pub mod states;
 
