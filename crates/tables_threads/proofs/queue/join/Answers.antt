@@ -4,4 +4,4 @@ use Rattle.facts.specs.Queue.{joined}
 use Rattle.tables_threads.proofs.queue.join.Goals as goal
 
 pub returns : goal.returns
-returns c = joined c.args.queue.now c.args.t c.requires.0 c.requires.1.0
+returns c = joined c.args.queue.now c.args.t c.requires.queue_ready c.requires.queue_in_bounds.0

@@ -5,6 +5,7 @@ use Prim.Native.Nat.{◌-◌}
 use native.Mathlib.Omega.{arith}
 use Rattle.tables_threads.proofs.Awake.{awake-none, awake-most, awake-due, awake-all, awake-pass, awake-fail}
 use Rattle.tables_threads.proofs.wake.wake_those_due.Goals as goal
+use Rattle.tables_threads.proofs.wake.wake_those_due.Goals.{then-is_due, else-is_due}
 
 pub loop-i-init : goal.loop-i-init
 loop-i-init c = (omega arith, awake-none _ _ _)
@@ -16,8 +17,12 @@ pub loop-i-preserved : goal.loop-i-preserved
 loop-i-preserved c =
     let said = sym (awake-due c.loop-i.invariant.1 c.args.clock _) ∙ sym c.is_due.ensures in (
       omega arith,
-      ⊎_elim (λ w. rw (w.1, w.2) (awake-pass c.loop-i.invariant.1 c.requires.fits (omega arith) (said ∙ w.0.taken)))
-          (λ w. rw (w.1, w.2) (awake-fail c.loop-i.invariant.1 c.requires.fits (omega arith) (said ∙ w.0.left))) c.if-is_due.branch,
+      elim c.if-is_due.branch [
+          then-is_due w ↦
+              rw (w.calls-is, w.woken-is) (awake-pass c.loop-i.invariant.1 c.requires.fits (omega arith) (said ∙ w.if-is_due.true))
+        | else-is_due w ↦
+              rw (w.calls-is, w.woken-is) (awake-fail c.loop-i.invariant.1 c.requires.fits (omega arith) (said ∙ w.if-is_due.false))
+      ],
     )
 
 pub returns : goal.returns
