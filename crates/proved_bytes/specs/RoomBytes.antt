@@ -3,7 +3,7 @@
 -- Assumes nothing.
 use Rattle.std.specs.Prelude.{◌≡◌, true, ◌↔◌, ℕ, ◌/◌, ◌≤◌, ◌<◌}
 use Rattle.std.proofs.Common.{◌∙◌, lt_of_mul-lt-mul_right, mul-lt-mul_of_pos_right, arith}
-use Rattle.std.proofs.Math.Logic.{Iff·trans}
+use mathlib.Core.Logic.Iff
 use Rattle.shape.specs.declared.Shape.{Shape}
 use Rattle.shape.specs.Limits.{allowed}
 use Rattle.shape.specs.Blocks.{size, count, offset, bytes}
@@ -30,8 +30,8 @@ module _ (s : Shape) (T : State) (h : allowed s ≡ true) (v : valid s T ≡ tru
       (k b : ℕ) → k < s.levels → b < count s k →
       FreeRun s T.pool.states k b ↔ ((l : ℕ) × (l ≤ k) × (state_at s T.pool.states l (offset s k b / size s l) ≡ FREE))
   run-bytes k b q i =
-      Iff·trans (run-tree s T.pool.states (limits s h) k b q i)
-      (Iff·trans (free-block (tree_of s T (valid-facts s T v)) (sizes_of s (limits s h)) k b q) (
+      Iff.trans (run-tree s T.pool.states (limits s h) k b q i)
+      (Iff.trans (free-block (tree_of s T (valid-facts s T v)) (sizes_of s (limits s h)) k b q) (
         λ (l, w, e). (l, w, (state-known s T.pool.states l _ (omega arith) e).1),
         λ (l, w, e). (l, w, state-inside s T.pool.states l _ (over l w) ∙ e),
       ))
@@ -44,8 +44,8 @@ module _ (s : Shape) (T : State) (h : allowed s ≡ true) (v : valid s T ≡ tru
       (k : ℕ) → k < s.levels →
       FreeBlock s T.pool.states k ↔ ((b : ℕ) × (b < count s k) × FreeRun s T.pool.states k b)
   room-bytes k q =
-      Iff·trans (room-tree s T.pool.states (limits s h) k q)
-      (Iff·trans (rw (size_top s) at (room (tree_of s T (valid-facts s T v)) (sizes_of s (limits s h)) k q)) (
+      Iff.trans (room-tree s T.pool.states (limits s h) k q)
+      (Iff.trans (rw (size_top s) at (room (tree_of s T (valid-facts s T v)) (sizes_of s (limits s h)) k q)) (
         λ (b, w, r). let i = (starts s k b (limits s h) q).1 w in (b, i, (run-tree s T.pool.states (limits s h) k b q i).1 r),
         λ (b, i, r). (b, (starts s k b (limits s h) q).0 i, (run-tree s T.pool.states (limits s h) k b q i).0 r),
       ))

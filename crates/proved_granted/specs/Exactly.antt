@@ -3,7 +3,7 @@
 -- Assumes nothing.
 use Rattle.std.specs.Prelude.{◌≡◌, refl, ◌⊎◌, ◌↔◌, ℕ, ◌≤◌, ◌<◌}
 use Rattle.std.proofs.Common.{ap, inl, inr, arith}
-use Rattle.std.proofs.Math.Logic.{Iff·trans}
+use mathlib.Core.Logic.Iff
 use Rattle.shape.specs.declared.Shape.{Shape}
 use Rattle.shape.specs.Blocks.{count, bytes, level_for}
 use Rattle.shape.specs.Laws.{limits, level_for-inside}
@@ -87,7 +87,7 @@ module _ (s : Shape) (T : State) (t size : ℕ) (a : Asks s T t size) where
 
   -- it is granted exactly where such a run is free
   pub granted-exactly : IsGranted (request s T t size) ↔ HasRun s T size
-  granted-exactly = Iff·trans granted-block (room-bytes s T a.runs.sound.shape a.runs.sound.valid (level_for s size) inside)
+  granted-exactly = Iff.trans granted-block (room-bytes s T a.runs.sound.shape a.runs.sound.valid (level_for s size) inside)
 
   -- else it ends with no room, and tables and record are as they were before it was asked
   pub refused-else : (HasRun s T size → ⊥) → request s T t size ≡ outcome (Refused NoRoom) T

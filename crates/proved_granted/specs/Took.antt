@@ -3,7 +3,7 @@
 -- Assumes nothing.
 use Rattle.std.specs.Prelude.{◌≡◌, refl, true, ◌↔◌, List, ◌∷◌, ℕ, ◌+◌, ◌*◌, ◌/◌, ◌≤◌, ◌<◌}
 use Rattle.std.proofs.Common.{sym, ◌∙◌, ap, inl, inr, get_or-set_same}
-use Rattle.std.proofs.Math.Logic.{Iff·trans}
+use mathlib.Core.Logic.Iff
 use native.Mathlib.Omega.{arith}
 use Rattle.std.proofs.Math.ListN.{length}
 use Rattle.shape.specs.declared.Shape.{Shape}
@@ -103,7 +103,7 @@ module _ (s : Shape) (T : State) (t wanted : ℕ) (a : Asks s T t wanted) where
   next :
       (U : State) (l b : ℕ) → Running s U t (dividing wanted l b) → l < level_for s wanted → Held U l b →
       Held (split_step s U t (dividing wanted l b)).after (l + 1) (parts s * b)
-  next U l b g h p y k = Iff·trans (p y k) (split-free s U t wanted l b g h y k)
+  next U l b g h p y k = Iff.trans (p y k) (split-free s U t wanted l b g h y k)
 
   first :
       (l : ℕ) → l < s.levels → (b : ℕ) (bs : List ℕ) → free_list s T.pool.lists l ≡ b ∷ bs →
