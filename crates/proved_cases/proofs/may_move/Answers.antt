@@ -10,8 +10,7 @@ use borrow.Author.Rules.{rules}
 use Rattle.laws.specs.Tests.{every, every-at}
 use Rattle.rules.specs.Moves.{may_move}
 use Rattle.facts.specs.Stage.{alike}
-use Rattle.proved_cases.proofs.may_move.Statement.{statement}
-use Rattle.proved_cases.proofs.may_move.Tie as tie
+use Rattle.proved_cases.proofs.may_move.Goals as goal
 
 abbrev table : List (List ℕ)
 table =
@@ -27,19 +26,7 @@ agrees : every 6 (λ a. every 6 (λ b. beq (eqb (get_or (get_or table a []) b 0)
 unfolding every
 agrees = refl
 
-mul-result : tie.Need-overflow-mul-result
-mul-result c = search rules
-
-index-1-result : tie.Need-bounds-1-result
-index-1-result c = search rules
-
-index-2-result : tie.Need-bounds-2-result
-index-2-result c = search rules
-
-returns : tie.Need-returns
+pub returns : goal.returns
 returns c =
     alike _ _
-    (every-at 6 _ (every-at 6 _ agrees c.before.args.from (search rules)) c.before.args.to (search rules))
-
-pub may-move-spec : {M : Type 1} → statement M
-may-move-spec = tie.close (tie.spec mul-result index-1-result index-2-result returns)
+    (every-at 6 _ (every-at 6 _ agrees c.args.from (search rules)) c.args.to (search rules))
