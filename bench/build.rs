@@ -43,7 +43,7 @@ fn compile_runner(out: &Path) {
     println!("cargo:rustc-env=BENCH_RUNNER={}", program.display());
 }
 
-/// The archive from the folder SALTBALANCE_LIB, else from the folder into which `rt staticlib` writes: a copy in which only the places at
+/// The archive from the folder SALTBALANCE_LIB, else from the folder into which `tools/archive` writes: a copy in which only the places at
 /// which functions may begin differ.
 fn link_archive(out: &Path) {
     println!("cargo:rerun-if-env-changed=SALTBALANCE_LIB");
@@ -53,7 +53,7 @@ fn link_archive(out: &Path) {
     println!("cargo:rerun-if-changed={}", archive.display());
     if !archive.is_file() {
         eprintln!("bench: the archive of the proved calls is missing: {}", archive.display());
-        eprintln!("    make it at the repository's root with:  rt staticlib {LIBRARY}");
+        eprintln!("    make it at the repository's root with:  tools/archive");
         eprintln!("    or name the folder that holds {ARCHIVE} in the variable SALTBALANCE_LIB (a full path)");
         process::exit(1);
     }

@@ -22,7 +22,7 @@ fn main() {
     println!("cargo:rustc-link-lib=static={LIBRARY}");
 }
 
-/// The folder of the archive: SALTBALANCE_LIB where it is set, else the folder into which `rt staticlib` writes.
+/// The folder of the archive: SALTBALANCE_LIB where it is set, else the folder into which `tools/archive` writes.
 fn folder() -> PathBuf {
     let here = PathBuf::from(env::var_os("CARGO_MANIFEST_DIR").expect("cargo sets CARGO_MANIFEST_DIR"));
     match env::var_os("SALTBALANCE_LIB") {
@@ -34,6 +34,6 @@ fn folder() -> PathBuf {
 /// Says what is missing and the command that makes it.
 fn explain(archive: &Path) {
     eprintln!("saltbalance: the archive of the proved calls is missing: {}", archive.display());
-    eprintln!("    make it at the repository's root with:  rt staticlib {LIBRARY}");
+    eprintln!("    make it at the repository's root with:  tools/archive");
     eprintln!("    or name the folder that holds {ARCHIVE} in the variable SALTBALANCE_LIB (a full path).");
 }

@@ -19,7 +19,7 @@ fn main() {
     println!("cargo:rerun-if-changed={}", archive.display());
     if !archive.is_file() {
         eprintln!("{} is missing.", archive.display());
-        eprintln!("Make it at the repository's root with `rt staticlib saltbalance_c`,");
+        eprintln!("Make it at the repository's root with `tools/archive`,");
         eprintln!("or name the folder that holds it in SALTBALANCE_LIB,");
         eprintln!("or build with --no-default-features: everything but `model calls`.");
         exit(1);

@@ -11,7 +11,7 @@ use crate::Rounds;
 const COMPARED: &str = "\
 The nine calls of include/saltbalance.h, twice, on the same tables:
 
-- **proved**: the archive that `rt staticlib saltbalance_c` writes;
+- **proved**: the archive that `tools/archive` writes;
 - **C**: bench/plain.c and what stands in bench/plain.
 
 C makes the same check of all tables in front of each call but build, and then the same step: what is decided is the same, and how is what \
