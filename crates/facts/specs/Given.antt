@@ -1,21 +1,21 @@
 -- What valid tables give to a step: the state of the block in hand, and room where a block or a thread is appended.
 -- Assumes nothing.
-use Rattle.std.specs.Prelude.{◌≡◌, refl, Bool, true, false, not, ◌&&◌, ◌||◌, ◌⊎◌, List, ℕ, zero, suc, ◌+◌, ◌*◌, ◌-◌, ◌/◌, ◌≤◌, ◌<◌, length, get_or, take, drop, leb, ltb, eqb}
-use Rattle.std.proofs.Common.{sym, ◌∙◌, ap, subst, true≢false, inl, inr, add-one, arith, length-take, length-drop, length-take-le, leb-true, ltb-true, eqb-true, eq-eqb, ne_eqb}
+use Rattle.std.specs.Prelude.{◌≡◌, refl, Bool, true, false, not, ◌||◌, List, ℕ, ◌+◌, ◌*◌, ◌-◌, ◌≤◌, ◌<◌, length, get_or, drop, ltb, eqb}
+use Rattle.std.proofs.Common.{sym, true≢false, arith, length-drop, length-take-le, leb-true, ltb-true, eqb-true, eq-eqb, ne_eqb}
 use Rattle.std.specs.Bool.{beq}
-use Rattle.std.proofs.lemmas.Bool.{false≢true, eqb-false}
-use Rattle.laws.specs.Tests.{bit, every, every-at, tally, both, either, bit-most}
+use Rattle.std.proofs.lemmas.Bool.{false≢true}
+use Rattle.laws.specs.Tests.{bit, every, every-at, both}
 use Rattle.laws.specs.Lists.{times}
 use Rattle.laws.specs.Sums.{members-counted, tally-room, tally-some}
 use Rattle.shape.specs.declared.Shape.{Shape}
-use Rattle.shape.specs.Limits.{parts, allowed}
-use Rattle.shape.specs.Blocks.{count, above, place, blocks, level_for}
-use Rattle.shape.specs.Laws.{Limits, limits, above-next, above-up, count_next, parts-pos, level_for-inside}
+use Rattle.shape.specs.Limits.{parts}
+use Rattle.shape.specs.Blocks.{count, blocks, level_for}
+use Rattle.shape.specs.Laws.{level_for-inside}
 use Rattle.rules.specs.declared.Call.{Call}
-use Rattle.rules.specs.Numbers.{FREE, DIVIDED, NOEXIST, FREEING, ALLOCATING, FOUND, DIVIDING, RELEASING, WAITING, CELLS}
-use Rattle.rules.specs.Tables.{State, lengths, state_at, section, free_list, queue_of, call_of}
-use Rattle.rules.specs.Valid.{uses_block, fields_used, hand_inside, in_hand, one_to_one, target_kept, size_kept, found_kept, deadline_kept, may_wait, call_kept, calls_kept, parts_exist, list_ends, free_listed, queue_ends, waiters_queued, valid}
-use Rattle.facts.specs.Lines.{ValidFacts, valid-facts}
+use Rattle.rules.specs.Numbers.{FREE, DIVIDED, NOEXIST, FOUND, WAITING, CELLS}
+use Rattle.rules.specs.Tables.{State, lengths, state_at, free_list, queue_of, call_of}
+use Rattle.rules.specs.Valid.{uses_block, fields_used, hand_inside, in_hand, one_to_one, target_kept, size_kept, found_kept, deadline_kept, may_wait, call_kept, calls_kept, parts_exist, list_ends, free_listed, queue_ends, waiters_queued}
+use Rattle.facts.specs.Lines.{ValidFacts}
 use Rattle.facts.specs.Lists.{length-free_list}
 
 -- the lengths of the tables

@@ -8,8 +8,8 @@ use Rattle.shape.specs.declared.Shape.{Shape}
 use Rattle.shape.specs.Blocks.{count, level_for}
 use Rattle.rules.specs.declared.Call.{Call}
 use Rattle.rules.specs.Numbers.{FREEING, ALLOCATING, CLOSED, DIVIDING, RELEASING, WAITING}
-use Rattle.rules.specs.Tables.{State, lengths, state_at, call_of}
-use Rattle.rules.specs.Valid.{uses_block, one_to_one, valid, releasing, dividing}
+use Rattle.rules.specs.Tables.{State, state_at, call_of}
+use Rattle.rules.specs.Valid.{uses_block, one_to_one, releasing, dividing}
 use Rattle.facts.specs.Lines.{Sound, ValidFacts, valid-facts}
 use Rattle.facts.specs.Verdict.{passes, running-passes}
 use Rattle.facts.specs.Given.{CallFacts, call_facts, hand-inside, hand-state}

@@ -13,7 +13,7 @@ use Rattle.rules.specs.declared.Verdict.{Verdict}
 use Rattle.rules.specs.declared.Verdict.TheVariants.{Passed, Failed}
 use Rattle.rules.specs.Tables.{State, lengths, state_at}
 use Rattle.rules.specs.Valid.{valid}
-use Rattle.rules.specs.Refusals.{failing, through, fitting, verdict, checked, held_by, running, id_outside}
+use Rattle.rules.specs.Refusals.{failing, through, fitting, verdict, held_by, running, id_outside}
 use Rattle.facts.specs.Lines.{Sound}
 use Rattle.shape.specs.Blocks.{count, place, id_pool, id_level, id_block}
 use Rattle.rules.specs.declared.Device.{Device}

@@ -3,8 +3,7 @@
 -- Assumes nothing.
 use Rattle.std.specs.Prelude.{◌≡◌, refl, Bool, true, false, not, ◌&&◌, ◌||◌, ◌⊎◌, List, ℕ, zero, suc, ◌+◌, ◌≤◌, ◌<◌, length, get_or, eqb, ltb}
 use Rattle.std.proofs.Common.{sym, ◌∙◌, ap, ap₂, inl, inr, add-zero, add-suc, lt-suc_self, lt_trans, eq-or-lt_of_le, le_of_suc-le-suc, not-suc-le-zero, arith, ltb-true, lt-ltb, eqb-true, eq-eqb}
-use Rattle.std.proofs.lemmas.Bool.{not-true}
-use Rattle.laws.specs.Tests.{bit, bit-most, both, both_of, either, every, every-at, every_of, tally}
+use Rattle.laws.specs.Tests.{bit, both, both_of, every, every-at, every_of, tally}
 use Rattle.laws.specs.Lists.{times}
 use Rattle.laws.specs.Times.{same_test}
 use Rattle.laws.specs.Changes.{implied}

@@ -1,7 +1,7 @@
 -- Numbers as bytes: decimal digits, and numbers of several bytes, lowest first.
 -- Assumes nothing.
-use Rattle.std.specs.Prelude.{◌≡◌, refl, Bool, true, false, cond, List, [], ◌∷◌, ◌++◌, ℕ, zero, suc, ◌+◌, ◌*◌, ◌-◌, ◌/◌, ◌%◌, ◌≤◌, ◌<◌, length, ltb}
-use Rattle.std.proofs.Common.{sym, ◌∙◌, ap, arith, ltb-false, lt-ltb, le-ltb}
+use Rattle.std.specs.Prelude.{◌≡◌, refl, Bool, true, false, cond, List, [], ◌∷◌, ◌++◌, ℕ, zero, suc, ◌+◌, ◌*◌, ◌/◌, ◌%◌, ◌≤◌, ◌<◌, ltb}
+use Rattle.std.proofs.Common.{ap, arith, ltb-false, lt-ltb, le-ltb}
 
 -- the digits of a number with at most this many more to come, as ASCII
 unfoldable pub digits_within : ℕ → ℕ → List ℕ

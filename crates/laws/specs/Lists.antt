@@ -1,6 +1,6 @@
 -- Lists as rows of a table: a list with zeros behind it, how often a number stands in it, what is kept of it.
 -- Assumes nothing.
-use Rattle.std.specs.Prelude.{Bool, true, false, cond, List, [], ◌∷◌, ◌++◌, ℕ, zero, suc, ◌+◌, ◌-◌, length, replicate, eqb}
+use Rattle.std.specs.Prelude.{Bool, cond, List, [], ◌∷◌, ◌++◌, ℕ, zero, suc, ◌+◌, ◌-◌, length, replicate, eqb}
 use Rattle.laws.specs.Tests.{bit}
 
 -- a list, and zeros behind it up to n places

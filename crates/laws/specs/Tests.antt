@@ -1,6 +1,6 @@
 -- Tests over all numbers below a bound, and how many pass.
 -- Assumes nothing.
-use Rattle.std.specs.Prelude.{◌≡◌, refl, Bool, true, false, not, ◌&&◌, ◌||◌, ◌⊎◌, ℕ, zero, suc, ◌+◌, ◌≤◌, ◌<◌}
+use Rattle.std.specs.Prelude.{◌≡◌, refl, Bool, true, false, ◌&&◌, ◌||◌, ◌⊎◌, ℕ, zero, suc, ◌+◌, ◌≤◌, ◌<◌}
 use Rattle.std.proofs.Common.{sym, ◌∙◌, ap, ap₂, inl, inr, le_of_suc-le-suc, eq-or-lt_of_le, not-suc-le-zero, lt-suc_self, lt_trans, add-one, arith}
 use Rattle.std.proofs.lemmas.Bool.{false≢true}
 

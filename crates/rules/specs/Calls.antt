@@ -1,6 +1,6 @@
 -- Document 01, 'Calls and steps' and 'Refusal numbers': each public call on any tables, its refusals in the table's order.
 -- Assumes nothing.
-use Rattle.std.specs.Prelude.{Bool, true, false, not, cond, ◌&&◌, ◌||◌, List, [], ◌∷◌, ◌++◌, ℕ, zero, suc, ◌+◌, ◌*◌, ◌-◌, ◌/◌, ℤ, length, set, leb, ltb, eqb}
+use Rattle.std.specs.Prelude.{Bool, true, false, not, ◌&&◌, List, ℕ, ◌+◌, length, set, ltb, eqb}
 use Rattle.laws.specs.Lists.{keep}
 use Rattle.shape.specs.declared.Shape.{Shape}
 use Rattle.shape.specs.declared.time.Millis.{Millis}
@@ -8,7 +8,6 @@ use Rattle.shape.specs.declared.time.Wait.{Wait}
 use Rattle.shape.specs.declared.time.Wait.TheVariants.{Never, Forever, Timed, Outside}
 use Rattle.shape.specs.Blocks.{place, id_level, id_block}
 use Rattle.shape.specs.Time.{wait}
-use Rattle.rules.specs.declared.Device.{Device}
 use Rattle.rules.specs.declared.Call.{Call}
 use Rattle.rules.specs.declared.Refusal.TheVariants.{NoThread, IsBlocked, NoCall, SizeAboveTop, WaitOutside, ClockAtEnd}
 use Rattle.rules.specs.declared.Answer.TheVariants.{Opened, Switched, Ticked, Built}

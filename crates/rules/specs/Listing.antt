@@ -1,6 +1,6 @@
 -- Document 01, 'Script and listing': the bytes of the listing that a script prints.
 -- Assumes nothing.
-use Rattle.std.specs.Prelude.{Bool, true, false, cond, List, [], ◌∷◌, ◌++◌, ℕ, zero, suc, ◌+◌, length, leb, ltb, eqb}
+use Rattle.std.specs.Prelude.{Bool, cond, List, [], ◌∷◌, ◌++◌, ℕ, zero, suc, ◌+◌, length, leb, ltb, eqb}
 use Rattle.laws.specs.Digits.{digits}
 use Rattle.shape.specs.declared.Shape.{Shape}
 use Rattle.rules.specs.declared.Refusal.TheVariants.{BadRecord}

@@ -3,7 +3,6 @@
 use Rattle.std.specs.Prelude.{Bool, not, cond, ◌&&◌, List, ℕ, ◌+◌, ◌-◌, ℤ, pos, negsuc, length, get_or, take, drop, leb, ltb, eqb}
 use Rattle.laws.specs.Digits.{little}
 use Rattle.shape.specs.declared.time.Millis.{Millis}
-use Rattle.rules.specs.declared.script.Record.{Record}
 use Rattle.rules.specs.declared.script.Record.TheVariants.{Pool, Ask, ShortAsk, GoOn, Give, Switch, Tick, Whole}
 use Rattle.rules.specs.declared.script.Decoded.{Decoded}
 use Rattle.rules.specs.declared.script.Decoded.TheVariants.{Good, Bad}

@@ -1,22 +1,20 @@
 -- Document 01, 'Calls and steps': each step of a thread whose call is open, on valid tables.
 -- Assumes nothing.
-use Rattle.std.specs.Prelude.{Bool, true, false, not, cond, ◌&&◌, ◌||◌, List, [], ◌∷◌, ◌++◌, ℕ, zero, suc, ◌+◌, ◌*◌, ◌-◌, ◌/◌, length, get_or, set, replicate, leb, ltb, eqb}
+use Rattle.std.specs.Prelude.{Bool, not, cond, ◌&&◌, ◌||◌, List, [], ◌∷◌, ◌++◌, ℕ, zero, suc, ◌+◌, ◌*◌, ◌-◌, ◌/◌, length, get_or, set, replicate, ltb, eqb}
 use Rattle.std.proofs.lemmas.List.Edits.{sets}
 use Rattle.laws.specs.Tests.{every}
 use Rattle.laws.specs.Lists.{keep, up_from}
 use Rattle.shape.specs.declared.Shape.{Shape}
 use Rattle.shape.specs.Limits.{parts}
 use Rattle.shape.specs.Blocks.{place, id, level_for}
-use Rattle.rules.specs.declared.Device.{Device}
 use Rattle.rules.specs.declared.Call.{Call}
 use Rattle.rules.specs.declared.Room.{Room}
 use Rattle.rules.specs.declared.Room.TheVariants.{At, Nowhere}
-use Rattle.rules.specs.declared.Refusal.{Refusal}
 use Rattle.rules.specs.declared.Refusal.TheVariants.{NoRoom, TimedOut}
 use Rattle.rules.specs.declared.Answer.{Answer}
 use Rattle.rules.specs.declared.Answer.TheVariants.{Refused, Found, Again, Taken, Split, Granted, Waiting, Merged, Settled}
 use Rattle.rules.specs.Numbers.{ALLOCATED, FREE, DIVIDED, NOEXIST, FREEING, ALLOCATING, CLOSED, ASKED, FOUND, DIVIDING, RELEASING, WAITING, NEVER, TIMED, CELLS}
-use Rattle.rules.specs.Tables.{Pool, Threads, State, pool, threads, lent, state_at, free_list, put_list, queue_of, put_queue, call_of, put_call}
+use Rattle.rules.specs.Tables.{Pool, Threads, State, pool, threads, lent, state_at, free_list, put_list, queue_of, put_queue, put_call}
 
 -- an answer, and the tables and the record as the step leaves them
 pub record Outcome : Type 0 where

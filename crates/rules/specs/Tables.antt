@@ -1,7 +1,7 @@
 -- The tables as lists: what stands where. Each level's blocks stand together, level 0 first (`place` of shape); a list's and the queue's
 -- length stands before its members.
 -- Assumes nothing.
-use Rattle.std.specs.Prelude.{Bool, cond, ◌&&◌, List, [], ◌∷◌, ◌++◌, ℕ, zero, suc, ◌+◌, ◌*◌, ◌-◌, length, get_or, take, drop, set, replicate, eqb}
+use Rattle.std.specs.Prelude.{Bool, cond, ◌&&◌, List, [], ◌∷◌, ◌++◌, ℕ, ◌+◌, ◌*◌, ◌-◌, length, get_or, take, drop, set, replicate, eqb}
 use Rattle.std.proofs.lemmas.List.Edits.{sets}
 use Rattle.laws.specs.Lists.{pad, up_from}
 use Rattle.shape.specs.declared.Shape.{Shape}

@@ -1,16 +1,16 @@
 -- Document 01, 'Six states and their moves': when tables are a valid state, line by line.
 -- Assumes nothing.
-use Rattle.std.specs.Prelude.{Bool, true, false, not, ◌&&◌, ◌||◌, List, ℕ, zero, suc, ◌+◌, ◌*◌, ◌-◌, ◌/◌, length, get_or, leb, ltb, eqb}
+use Rattle.std.specs.Prelude.{Bool, not, ◌&&◌, ◌||◌, List, ℕ, ◌+◌, ◌*◌, ◌-◌, length, get_or, leb, ltb, eqb}
 use Rattle.std.specs.Bool.{beq}
 use Rattle.laws.specs.Tests.{bit, every, tally}
 use Rattle.laws.specs.Lists.{times}
 use Rattle.shape.specs.declared.Shape.{Shape}
 use Rattle.shape.specs.Limits.{parts}
-use Rattle.shape.specs.Blocks.{count, place, blocks, level_for}
+use Rattle.shape.specs.Blocks.{count, blocks, level_for}
 use Rattle.shape.specs.Time.{ticks, longest}
 use Rattle.rules.specs.declared.Device.{Device}
 use Rattle.rules.specs.declared.Call.{Call}
-use Rattle.rules.specs.Numbers.{ALLOCATED, FREE, DIVIDED, NOEXIST, FREEING, ALLOCATING, CLOSED, ASKED, FOUND, DIVIDING, RELEASING, WAITING, NEVER, TIMED}
+use Rattle.rules.specs.Numbers.{ALLOCATED, FREE, DIVIDED, NOEXIST, FREEING, ALLOCATING, ASKED, FOUND, DIVIDING, RELEASING, WAITING, NEVER, TIMED}
 use Rattle.rules.specs.Tables.{Pool, Threads, State, state_at, section, free_list, queue_of, call_of}
 
 -- which fields a call's stage uses

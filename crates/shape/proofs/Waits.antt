@@ -1,17 +1,16 @@
 -- A signed number of 32 bits by its tests: which kind of wait it is.
 -- Assumes nothing.
 use mathlib.Core.Path.{◌≡◌, refl, sym, subst}
-use mathlib.Core.Bool.{Bool, true, false, false≢true, true≢false}
-use Prim.Native.Nat.{ℕ, zero, suc, ◌+◌, ◌/◌, ◌^◌, ◌<◌, ◌≤◌}
+use mathlib.Core.Bool.{true, false, false≢true, true≢false}
+use Prim.Native.Nat.{zero, suc, ◌<◌, ◌≤◌}
 use native.Mathlib.Omega.{arith}
 use lib.IntN.{ℤ, pos, negsuc, nat_abs}
 use lib.Signed.{lt_z, mag, non_neg}
-use lib.Dec.{T, leb, ltb}
+use lib.Dec.{T}
 use mir.Syntax.{w32}
-use mir.Val.{SFits, of_z, to_z}
+use mir.Val.{of_z, to_z}
 use mir.ValLaws.{to_z-of_z}
 use borrow.Author.Tests.{ltb-true, ltb-false, le-leb, lt-leb}
-use Rattle.shape.specs.declared.time.Wait.{Wait}
 use Rattle.shape.specs.declared.time.Wait.TheVariants.{Never, Forever, Timed, Outside}
 use Rattle.shape.specs.Time.{longest, ticks, wait}
 

@@ -1,7 +1,7 @@
 -- What follows from a shape's definitions, for every number of parts: the crates above lean on these and not on the definitions' text.
 -- Assumes nothing.
-use Rattle.std.specs.Prelude.{◌≡◌, refl, Bool, true, false, ◌&&◌, cond, ◌⊎◌, ℕ, zero, suc, ◌+◌, ◌*◌, ◌-◌, ◌/◌, ◌%◌, ◌^◌, ◌≤◌, ◌<◌, leb, eqb}
-use Rattle.std.proofs.Common.{sym, ◌∙◌, ap, inl, inr, pow-suc, div-one, div-le_self, eq-or-lt_of_le, le_of_suc-le-suc, not-suc-le-zero, mul-le-mul, add-one, arith, leb-true, leb-false, eqb-true}
+use Rattle.std.specs.Prelude.{◌≡◌, refl, Bool, true, false, cond, ◌⊎◌, ℕ, zero, suc, ◌+◌, ◌*◌, ◌-◌, ◌%◌, ◌^◌, ◌≤◌, ◌<◌, leb}
+use Rattle.std.proofs.Common.{sym, ap, inl, inr, pow-suc, div-one, div-le_self, eq-or-lt_of_le, le_of_suc-le-suc, mul-le-mul, add-one, arith, leb-true, eqb-true}
 use Rattle.std.proofs.Math.Nat.{pow-zero, pow-le-pow_right}
 use Rattle.std.proofs.Math.Decide.{dec_lt}
 use Rattle.std.proofs.Math.Arith.{le-zero}

@@ -1,6 +1,6 @@
 -- Document 01, 'Shape': the numbers that bound a shape.
 -- Assumes nothing.
-use Rattle.std.specs.Prelude.{Bool, ◌&&◌, ℕ, ◌*◌, ◌-◌, ◌%◌, ◌^◌, leb, ltb, eqb}
+use Rattle.std.specs.Prelude.{Bool, ◌&&◌, ℕ, ◌*◌, ◌-◌, ◌%◌, ◌^◌, leb, eqb}
 use Rattle.shape.specs.declared.Shape.{Shape}
 
 -- into how many parts a block is split: quarters

@@ -2,8 +2,6 @@
 -- Assumes nothing.
 use Rattle.std.specs.Prelude.{◌≡◌, refl, Bool, true, false, cond, ℕ, zero, suc, ◌+◌, ◌/◌, ◌≤◌, ◌-◌, ℤ, pos, negsuc, leb}
 use Rattle.std.proofs.Common.{arith, leb-true}
-use Rattle.shape.specs.declared.time.Millis.{Millis}
-use Rattle.shape.specs.declared.time.Ticks.{Ticks}
 use Rattle.shape.specs.declared.time.Wait.{Wait}
 use Rattle.shape.specs.declared.time.Wait.TheVariants.{Never, Forever, Timed, Outside}
 

@@ -1,5 +1,5 @@
 use mathlib.Core.Path.{◌≡◌}
-use Prim.Native.Nat.{◌-◌, ◌<◌}
+use Prim.Native.Nat.{◌<◌}
 use Rattle.shape.specs.Blocks.{level_from, level_for}
 use Rattle.shape.proofs.Shape.level_for.Given as goal
 
