@@ -2,7 +2,7 @@
 -- Assumes nothing.
 use Rattle.std.specs.Prelude.{◌≡◌, Bool, true, false, not, cond, ◌&&◌, ◌||◌, ℕ, ◌+◌, ◌≤◌, ◌<◌, ℤ, get_or, length, eqb}
 use Rattle.std.proofs.Math.Path.{refl}
-use mathlib.Core.List.{List, [], ◌∷◌, ◌++◌}
+use mathlib.Core.List.{List, [], ◌∷◌}
 use Rattle.std.proofs.Math.Decide.{dec_lt, ℕ_discrete}
 use Rattle.std.proofs.Common.{arith}
 use borrow.Author.Tests.{ltb-true, ltb-false, lt-ltb, eqb-true, eqb-false, eq-eqb, ne_eqb, not-false}
@@ -17,7 +17,7 @@ use Rattle.rules.specs.declared.Refusal.{Refusal}
 use Rattle.rules.specs.declared.Refusal.TheVariants.{ShapeNotAllowed, WrongLength, NotValid, NoThread, NotRunning, NoRoom, TimedOut}
 use Rattle.rules.specs.declared.Answer.TheVariants.{Refused, Opened, Found, Waiting, Switched, Ticked, Built}
 use Rattle.rules.specs.declared.Answer.TheVariants as answers
-use Rattle.rules.specs.Numbers.{ALLOCATED, FREEING, CLOSED, ASKED, FOUND, DIVIDING, RELEASING, WAITING, NEVER, TIMED, CLOCK-END}
+use Rattle.rules.specs.Numbers.{ALLOCATED, CLOSED, ASKED, FOUND, DIVIDING, RELEASING, WAITING, NEVER, TIMED, CLOCK-END}
 use Rattle.rules.specs.Answers.{refusal_number}
 use Rattle.rules.specs.Tables.{State, lent, state_at, free_list, call_of, fresh}
 use Rattle.rules.specs.Steps.{Outcome, outcome, only_call, closed, moved, blocked, deepest, no_room, look_at, look, take_from, take_step, split_step, grant_step, divide_step, merges, merge_step, settle_step, release_step, go_on_step}

@@ -6,7 +6,7 @@ use Rattle.laws.specs.Lists.{pad, times, keep, up_from}
 use Rattle.shape.specs.declared.Shape.{Shape}
 use Rattle.shape.specs.Limits.{parts, unit, allowed}
 use Rattle.shape.specs.Blocks.{size, count, level_from, level_for, above, blocks}
-use Rattle.shape.specs.Time.{longest, ticks, wait}
+use Rattle.shape.specs.Time.{ticks, wait}
 use Rattle.rules.specs.Answers.{number, detail, refusal_number}
 use Rattle.rules.specs.declared.Covered.{Covered}
 use Rattle.rules.specs.declared.Covered.TheVariants.{Block}

@@ -25,7 +25,7 @@ use Rattle.rules.specs.Numbers.{ALLOCATED, CLOSED, WAITING, CLOCK-END}
 use Rattle.rules.specs.Tables.{State, lent, lengths, state_at, call_of, fresh}
 use Rattle.rules.specs.Valid.{valid}
 use Rattle.rules.specs.Steps.{Outcome, outcome, only_call, go_on_step}
-use Rattle.rules.specs.Refusals.{failing, through, fitting, verdict, refused, refuse, running, by_running, by_idle, of_held, id_outside, held_by}
+use Rattle.rules.specs.Refusals.{failing, through, fitting, verdict, refused, refuse, running, by_running, id_outside, held_by}
 use Rattle.rules.specs.Calls.{build, asked_call, is_outside, ask_step, ask, go_on, given, give_step, give, only_device, switch_step, switch, due_at, ticked, tick_step, tick}
 use Rattle.rules.specs.Questions.{is_whole, whole, cover_level, block_over, cover, map_ids, MapOutcome, map_outcome, map_row, map_pool}
 

@@ -1,12 +1,11 @@
 -- Demand 1, 'No input breaks it': for every shape, all tables and every call, the answer is one that document 01 lists for the call, and a
 -- refusal alters nothing, except that no room and timed out (14 and 15) close the asker's own call.
 -- Assumes nothing.
-use Rattle.std.specs.Prelude.{◌≡◌, refl, Bool, true, false, not, cond, ◌⊎◌, List, ℕ, length, ltb, eqb}
+use Rattle.std.specs.Prelude.{◌≡◌, refl, Bool, true, false, cond, ◌⊎◌, List, ℕ, length, ltb, eqb}
 use Rattle.std.proofs.Common.{sym, ◌∙◌, ap, true≢false, inl, inr, arith, eqb-true}
 use Rattle.std.proofs.lemmas.Bool.{not-true}
 use Rattle.laws.specs.Tests.{both, either}
 use Rattle.shape.specs.declared.Shape.{Shape}
-use Rattle.shape.specs.Limits.{allowed}
 use Rattle.shape.specs.Blocks.{bytes}
 use Rattle.rules.specs.declared.Call.{Call}
 use Rattle.rules.specs.declared.Refusal.{Refusal}

@@ -6,7 +6,7 @@ use Rattle.shape.specs.declared.Shape.{Shape}
 use Rattle.shape.specs.Limits.{parts}
 use Rattle.shape.specs.Blocks.{count}
 use Rattle.rules.specs.declared.Call.{Call}
-use Rattle.rules.specs.Numbers.{ALLOCATED, FREE, DIVIDED, NOEXIST, FREEING, ALLOCATING, DIVIDING, RELEASING, WAITING}
+use Rattle.rules.specs.Numbers.{ALLOCATED, FREE, DIVIDED, NOEXIST, WAITING}
 use Rattle.rules.specs.Tables.{State, state, state_at, put_call}
 use Rattle.rules.specs.Valid.{in_hand, one_to_one, call_kept}
 use Rattle.facts.specs.Running.{Running}

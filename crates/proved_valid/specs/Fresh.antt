@@ -18,7 +18,7 @@ use Rattle.shape.specs.Limits.{parts}
 use Rattle.shape.specs.Blocks.{count, above, place, blocks}
 use Rattle.shape.specs.Laws.{Limits, parts-pos, count-top, above-none, above-next, above-up, place_inside}
 use Rattle.shape.specs.Sections.{level-inside, part-inside}
-use Rattle.rules.specs.Numbers.{ALLOCATED, FREE, DIVIDED, NOEXIST, FREEING, ALLOCATING, DIVIDING, RELEASING, CELLS}
+use Rattle.rules.specs.Numbers.{ALLOCATED, FREE, DIVIDED, NOEXIST, FREEING, ALLOCATING, CELLS}
 use Rattle.rules.specs.Tables.{state_at, section, free_list, put_list, queue_of, call_of, fresh}
 use Rattle.rules.specs.Valid.{states_known, owners_known, tops_exist, parts_exist, deepest_whole, buddies_merged, list_ends, calls_kept, in_hand, one_to_one, queue_ends, waiters_queued, running_ready, dividing, releasing}
 use Rattle.rules.specs.Steps.{closed}

@@ -7,9 +7,9 @@ use Rattle.shape.specs.declared.Shape.{Shape}
 use Rattle.shape.specs.Limits.{allowed}
 use Rattle.shape.specs.Blocks.{blocks}
 use Rattle.rules.specs.declared.Device.{Device}
-use Rattle.rules.specs.Numbers.{FREEING, ALLOCATING, DIVIDING, RELEASING, CELLS}
+use Rattle.rules.specs.Numbers.{CELLS}
 use Rattle.rules.specs.Tables.{State, lengths}
-use Rattle.rules.specs.Valid.{states_known, owners_known, tops_exist, parts_exist, deepest_whole, buddies_merged, list_ends, free_listed, calls_kept, one_to_one, queue_ends, waiters_queued, running_ready, valid}
+use Rattle.rules.specs.Valid.{states_known, owners_known, tops_exist, parts_exist, deepest_whole, buddies_merged, list_ends, free_listed, calls_kept, queue_ends, waiters_queued, running_ready, valid}
 use Rattle.facts.specs.Lines.{Sound, ValidFacts, valid-facts, HandsFacts, facts-valid}
 use Rattle.facts.specs.Given.{LengthFacts, length-facts}
 

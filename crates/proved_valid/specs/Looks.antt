@@ -10,7 +10,7 @@ use Rattle.shape.specs.declared.Shape.{Shape}
 use Rattle.shape.specs.Blocks.{level_for}
 use Rattle.rules.specs.declared.Call.{Call}
 use Rattle.rules.specs.declared.Room.TheVariants.{At}
-use Rattle.rules.specs.Numbers.{FREEING, ALLOCATING, ASKED, FOUND, DIVIDING, RELEASING, WAITING, NEVER, TIMED}
+use Rattle.rules.specs.Numbers.{ASKED, FOUND, WAITING, NEVER, TIMED}
 use Rattle.rules.specs.Tables.{State, queue_of, put_call, lent}
 use Rattle.rules.specs.Valid.{uses_block, running_ready}
 use Rattle.rules.specs.Steps.{only_call, closed, moved, deepest}

@@ -15,7 +15,7 @@ use Rattle.shape.specs.Blocks.{count, place}
 use Rattle.shape.specs.Laws.{parts-pos}
 use Rattle.shape.specs.Sections.{levels-apart, parent-inside}
 use Rattle.rules.specs.declared.Call.{Call}
-use Rattle.rules.specs.Numbers.{ALLOCATED, FREE, DIVIDED, NOEXIST, FREEING, ALLOCATING, DIVIDING, RELEASING}
+use Rattle.rules.specs.Numbers.{ALLOCATED, FREE, DIVIDED, NOEXIST, FREEING, ALLOCATING, RELEASING}
 use Rattle.rules.specs.Tables.{State, state, state_at, free_list, put_list, put_call}
 use Rattle.rules.specs.Valid.{uses_block, in_hand, dividing, releasing}
 use Rattle.rules.specs.Steps.{holding, first_buddy, merges, merge_step}

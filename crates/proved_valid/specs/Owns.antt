@@ -1,14 +1,12 @@
 -- Grant and give back: a block gets its owner, or loses it; the tables stay kept.
 -- Assumes nothing.
-use Rattle.std.specs.Prelude.{◌≡◌, true, false, not, ◌&&◌, ℕ, ◌+◌, ◌<◌, set, leb, ltb}
+use Rattle.std.specs.Prelude.{◌≡◌, true, false, not, ◌&&◌, ℕ, ◌+◌, set, leb}
 use Rattle.std.proofs.Math.Path.{refl}
-use Rattle.std.proofs.Common.{sym, ◌∙◌, ap, arith, length-set, le-leb, ne_eqb, ltb-true}
+use Rattle.std.proofs.Common.{sym, ◌∙◌, ap, arith, length-set, le-leb, ne_eqb}
 use Rattle.std.specs.Bool.{beq}
 use Rattle.std.proofs.Math.Dec.{eqb}
-use Rattle.std.proofs.lemmas.Bool.{not-false}
-use Rattle.laws.specs.Tests.{both}
 use Rattle.shape.specs.declared.Shape.{Shape}
-use Rattle.shape.specs.Blocks.{count, place, id_pool, id_level, id_block}
+use Rattle.shape.specs.Blocks.{place, id_level, id_block}
 use Rattle.rules.specs.declared.Call.{Call}
 use Rattle.rules.specs.Numbers.{ALLOCATED, FREE, DIVIDED, NOEXIST, FREEING, ALLOCATING, CLOSED, DIVIDING, RELEASING, WAITING}
 use Rattle.rules.specs.Tables.{State, state, state_at, put_call}

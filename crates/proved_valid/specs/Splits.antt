@@ -2,7 +2,7 @@
 -- Assumes nothing.
 use Rattle.std.specs.Prelude.{◌≡◌, Bool, ◌⊎◌, List, ◌∷◌, ◌++◌, ℕ, zero, suc, ◌+◌, ◌*◌, ◌-◌, ◌/◌, ◌≤◌, ◌<◌, length, get_or, replicate}
 use Rattle.std.proofs.Math.Path.{refl, ap}
-use Rattle.std.proofs.Common.{sym, ◌∙◌, inl, inr, arith, leb-true, eq-eqb, ne_eqb}
+use Rattle.std.proofs.Common.{sym, ◌∙◌, inl, inr, arith, leb-true, eq-eqb}
 use Rattle.std.proofs.Math.Bool.{true, false, not}
 use Rattle.std.proofs.Math.Nat.{mul-div_right}
 use Rattle.std.proofs.Math.Decide.{dec_lt}
@@ -18,7 +18,7 @@ use Rattle.shape.specs.Blocks.{count, place, level_for}
 use Rattle.shape.specs.Laws.{parts-pos, level_for-inside, limits}
 use Rattle.shape.specs.Sections.{part-inside}
 use Rattle.rules.specs.declared.Call.{Call}
-use Rattle.rules.specs.Numbers.{ALLOCATED, FREE, DIVIDED, NOEXIST, FREEING, ALLOCATING, DIVIDING, RELEASING}
+use Rattle.rules.specs.Numbers.{ALLOCATED, FREE, DIVIDED, NOEXIST, FREEING, ALLOCATING, DIVIDING}
 use Rattle.rules.specs.Tables.{State, state_at, free_list}
 use Rattle.rules.specs.Valid.{uses_block, in_hand, size_kept, dividing, releasing}
 use Rattle.rules.specs.Steps.{holding, split_step}

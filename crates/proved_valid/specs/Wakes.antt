@@ -12,7 +12,7 @@ use Rattle.laws.specs.Lists.{times, keep}
 use Rattle.shape.specs.declared.Shape.{Shape}
 use Rattle.shape.specs.Blocks.{count}
 use Rattle.rules.specs.declared.Call.{Call}
-use Rattle.rules.specs.Numbers.{FREEING, ALLOCATING, ASKED, DIVIDING, RELEASING, WAITING, TIMED}
+use Rattle.rules.specs.Numbers.{FREEING, ALLOCATING, ASKED, WAITING, TIMED}
 use Rattle.rules.specs.Tables.{State, state, state_at, queue_of, put_queue, call_of}
 use Rattle.rules.specs.Valid.{in_hand, one_to_one, call_kept, calls_kept, running_ready, dividing, releasing}
 use Rattle.rules.specs.Steps.{wake}

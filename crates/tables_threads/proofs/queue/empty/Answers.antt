@@ -2,7 +2,6 @@
 -- queue of nobody (`emptied`). Assumes nothing.
 use mathlib.Core.Path.{◌≡◌, refl, ◌∙◌}
 use mathlib.Core.List.{[]}
-use Prim.Native.Nat.{◌-◌}
 use native.Mathlib.Omega.{arith}
 use lib.ListN.{length, length-set}
 use Rattle.laws.specs.Lists.{pad}
@@ -15,13 +14,12 @@ unfolding pad
 loop-i-init c = (omega arith, refl, refl)
 
 pub loop-i-preserved : goal.loop-i-preserved
-loop-i-preserved c =
-    (
-      omega arith,
-      simp length-set (omega arith),
-      rw c.loop-i.invariant.2
-          (pad-clear c.loop-i.i [] c.args.queue.now (omega arith) (omega arith)),
-    )
+loop-i-preserved c = (
+  omega arith,
+  simp length-set (omega arith),
+  rw c.loop-i.invariant.2
+      (pad-clear c.loop-i.i [] c.args.queue.now (omega arith) (omega arith)),
+)
 
 pub returns : goal.returns
 returns c =

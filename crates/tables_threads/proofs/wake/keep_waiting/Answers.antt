@@ -2,7 +2,6 @@
 -- zeros behind them, and the rest is as it was (`Staying`). Assumes nothing.
 use mathlib.Core.Path.{sym, ◌∙◌, ap}
 use mathlib.Core.Bool.{not}
-use Prim.Native.Nat.{◌-◌}
 use native.Mathlib.Omega.{arith}
 use lib.ListN.{length-set}
 use Rattle.tables_threads.proofs.Staying.{staying-none, staying-length, staying-most, staying-at, staying-all, staying-pass, staying-fail}
@@ -32,10 +31,10 @@ loop-i-preserved c =
     let said = ap not (sym c.is_due.ensures) in (
       omega arith,
       elim c.if-not-is_due.branch [
-          then-not-is_due w ↦
-              rw (w.queue-is, w.kept-is) (staying-pass r c.loop-i.invariant.1 (omega arith) (said ∙ ap not w.if-not-is_due.true))
+        | then-not-is_due w ↦
+            rw (w.queue-is, w.kept-is) (staying-pass r c.loop-i.invariant.1 (omega arith) (said ∙ ap not w.if-not-is_due.true))
         | else-not-is_due w ↦
-              rw (w.queue-is, w.kept-is) (staying-fail r c.loop-i.invariant.1 (omega arith) (said ∙ ap not w.if-not-is_due.false))
+            rw (w.queue-is, w.kept-is) (staying-fail r c.loop-i.invariant.1 (omega arith) (said ∙ ap not w.if-not-is_due.false))
       ],
     )
 

@@ -1,7 +1,6 @@
 -- `wake_those_due` meets its contract. The loop's invariant: of the queue's first i members those that were due at entry are awake, and counted
 -- (`Awake`). What is read of a call as the loop goes is what stood there at entry (`awake-due`). Assumes nothing.
 use mathlib.Core.Path.{sym, ◌∙◌}
-use Prim.Native.Nat.{◌-◌}
 use native.Mathlib.Omega.{arith}
 use Rattle.tables_threads.proofs.Awake.{awake-none, awake-most, awake-due, awake-all, awake-pass, awake-fail}
 use Rattle.tables_threads.proofs.wake.wake_those_due.Goals as goal
@@ -18,10 +17,10 @@ loop-i-preserved c =
     let said = sym (awake-due c.loop-i.invariant.1 c.args.clock _) ∙ sym c.is_due.ensures in (
       omega arith,
       elim c.if-is_due.branch [
-          then-is_due w ↦
-              rw (w.calls-is, w.woken-is) (awake-pass c.loop-i.invariant.1 c.requires.fits (omega arith) (said ∙ w.if-is_due.true))
+        | then-is_due w ↦
+            rw (w.calls-is, w.woken-is) (awake-pass c.loop-i.invariant.1 c.requires.fits (omega arith) (said ∙ w.if-is_due.true))
         | else-is_due w ↦
-              rw (w.calls-is, w.woken-is) (awake-fail c.loop-i.invariant.1 c.requires.fits (omega arith) (said ∙ w.if-is_due.false))
+            rw (w.calls-is, w.woken-is) (awake-fail c.loop-i.invariant.1 c.requires.fits (omega arith) (said ∙ w.if-is_due.false))
       ],
     )
 
