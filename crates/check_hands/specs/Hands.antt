@@ -1,8 +1,8 @@
 -- Blocks in hand: that the blocks of a state correspond to the calls that pass a test, told by two counts and a look at each such call.
 -- Assumes nothing.
-use Rattle.std.specs.Prelude.{◌≡◌, refl, Bool, true, false, not, ◌||◌, List, ℕ, ◌*◌, ◌≤◌, ◌<◌, length, get_or}
+use Rattle.std.specs.Prelude.{◌≡◌, refl, Bool, true, false, not, ◌||◌, List, ℕ, ◌*◌, ◌≤◌, ◌<◌, length}
 use Rattle.std.proofs.Math.Path.{sym, ap, ap₂}
-use Rattle.std.proofs.Common.{◌∙◌, arith, eqb-true, eq-eqb}
+use Rattle.std.proofs.Common.{◌∙◌, eqb-true, eq-eqb}
 use Rattle.std.proofs.Math.Bool.{◌&&◌}
 use Rattle.std.proofs.Math.Dec.{eqb}
 use Rattle.laws.specs.Tests.{bit, both, both_of, every, every-at, every_of, every-same, tally, tally-same}

@@ -1,11 +1,8 @@
 -- What validity says of one level's free list, from the level's own parts of the tables.
 -- Assumes nothing.
-use Rattle.std.specs.Prelude.{◌≡◌, Bool, true, ◌&&◌, ◌||◌, List, ℕ, ◌+◌, ◌≤◌, length, get_or, take, leb, ltb, eqb}
+use Rattle.std.specs.Prelude.{Bool, ◌&&◌, ◌||◌, List, ℕ, length, get_or, take, leb, ltb, eqb}
 use Rattle.laws.specs.Tests.{bit, every}
 use Rattle.laws.specs.Lists.{times}
-use Rattle.shape.specs.declared.Shape.{Shape}
-use Rattle.shape.specs.Limits.{allowed}
-use Rattle.shape.specs.Blocks.{blocks}
 use Rattle.rules.specs.Numbers.{FREE}
 
 -- every cell holds zero

@@ -1,6 +1,5 @@
 -- `check_counts::count_few` meets its contract: the sum counts the states passed, and there are few enough that it fits.
 -- Assumes nothing.
-use Prim.Native.Nat.{◌-◌}
 use native.Mathlib.Omega.{arith}
 use Rattle.check_counts.specs.Counted.{passed_none, passed-most, passed-more}
 use Rattle.check_counts.proofs.count_few.Goals as goal

@@ -1,0 +1,14 @@
+-- `check_lists::marks::mark` meets its contract: of the members passed, and of no other block, the bits are set.
+-- Assumes nothing.
+use native.Mathlib.Omega.{arith}
+use Rattle.check_lists.proofs.Marking.{marked-none, marked-at, marked_more}
+use Rattle.check_lists.proofs.marks.mark.Goals as goal
+
+pub loop-i-init : goal.loop-i-init
+loop-i-init c = marked-none _ _ c.requires
+
+pub overflow_shl-marks : goal.overflow_shl-marks
+overflow_shl-marks c = omega (arith, marked-at c.loop-i.invariant c.loop-i-test.true)
+
+pub loop-i-preserved : goal.loop-i-preserved
+loop-i-preserved c = marked_more c.loop-i.invariant c.loop-i-test.true
