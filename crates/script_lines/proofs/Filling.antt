@@ -1,7 +1,7 @@
 -- The digits of a number, written from the last one to the first.
 -- Assumes nothing.
-use mathlib.Core.Path.{◌≡◌, refl, sym, ◌∙◌, ap}
-use mathlib.Core.List.{List, [], ◌∷◌, ◌++◌, append-nil}
+use mathlib.Core.Path.{◌≡◌, sym, ◌∙◌, ap}
+use mathlib.Core.List.{List, ◌∷◌, ◌++◌}
 use Prim.Native.Nat.{ℕ, suc, ◌+◌, ◌-◌, ◌/◌, ◌%◌, ◌≤◌, ◌<◌}
 use native.Mathlib.Omega.{arith}
 use lib.ListN.{length, set, length-append}
@@ -18,9 +18,6 @@ pub record Filled (before : List ℕ) (at n : ℕ) (after : List ℕ) (rest plac
   pub written : after ≡ sets before place behind
 
 module _ {before : List ℕ} {at n : ℕ} where
-  pub none_filled : (place : ℕ) → place ≡ at + length (digits n) → Filled before at n before n place
-  none_filled place e = record { behind = []; joined = sym (append-nil (digits n)); placed = e; written = refl }
-
   module _ {after : List ℕ} {rest place : ℕ} (f : Filled before at n after rest place) where
     pub filled-length : length after ≡ length before
     filled-length = ap length f.written ∙ length-sets before place f.behind
