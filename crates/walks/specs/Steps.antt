@@ -3,7 +3,7 @@
 use Rattle.std.specs.Prelude.{◌≡◌, ℕ, zero, List, [], ◌∷◌}
 use Rattle.std.proofs.Common.{sym, subst}
 use seplogic.Ra.Ura.{Ura}
-use seplogic.Ra.TreeShare.{full_share}
+use base.Fraction.{full_share}
 use mir.Syntax.{Ty, Step as PlaceStep, place, copy}
 use mir.Val.{Val}
 use base.Logic.{ent, sep, via, mono∗, mono_r}
