@@ -12,7 +12,7 @@ use Rattle.rules.specs.declared.Refusal.TheVariants.{RowTooShort}
 use Rattle.rules.specs.declared.Mapped.{Mapped}
 use Rattle.rules.specs.declared.Mapped.TheVariants.{Blocks}
 use Rattle.rules.specs.Tables.{State}
-use Rattle.rules.specs.Questions.{map_ids, map_outcome, map_row, map_pool}
+use Rattle.rules.specs.Questions.{map_outcome, map_row, map_pool}
 use Rattle.facts.specs.Lines.{Sound}
 use Rattle.facts.specs.Verdict.{passes}
 use Rattle.proved_conserved.specs.Pairs.{id_of, map_pairs, ids-pairs}

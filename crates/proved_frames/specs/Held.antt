@@ -29,7 +29,6 @@ use Rattle.proved_valid.specs.Histories.{steps-valid}
 use Rattle.history.specs.Walk.{EachGoOn, EachStep, each_step}
 use Rattle.facts.specs.Running.{Running, allocating, hand-placed, uses-block}
 use Rattle.facts.specs.Stage.{alike}
-use Rattle.proved_frames.specs.Others.{maker}
 use Rattle.facts.specs.Given.{length-facts}
 use Rattle.rules.specs.Calls.{go_on}
 

@@ -1,16 +1,15 @@
 -- Who is woken: a settle and a tick answer how many left the queue, after a settle nobody waits, and who begins to wait joins the queue's end.
 -- Assumes nothing.
 use Rattle.std.proofs.Math.Path.{◌≡◌, refl}
-use Rattle.std.proofs.Common.{sym, ◌∙◌, ap, arith, length-append}
-use Rattle.std.specs.Prelude.{Bool, true, false, not, cond, ℕ, ◌+◌, ◌-◌, ◌≤◌, ◌<◌, length}
+use Rattle.std.proofs.Common.{arith, length-append}
+use Rattle.std.specs.Prelude.{Bool, true, false, not, cond, ℕ, ◌+◌, ◌≤◌, length}
 use mathlib.Core.List.{List, [], ◌∷◌, ◌++◌}
 use Rattle.laws.specs.Lists.{keep}
-use Rattle.laws.specs.Keep.{keep-none, keep-most}
+use Rattle.laws.specs.Keep.{keep-most}
 use Rattle.shape.specs.declared.Shape.{Shape}
 use Rattle.rules.specs.declared.Call.{Call}
 use Rattle.rules.specs.declared.Answer.TheVariants.{Waiting, Settled, Ticked}
-use Rattle.rules.specs.Numbers.{ASKED, WAITING}
-use Rattle.rules.specs.Tables.{State, queue_of, call_of, put_queue}
+use Rattle.rules.specs.Tables.{State, queue_of, put_queue}
 use Rattle.rules.specs.Steps.{Outcome, take_from, split_step, grant_step, merge_step, settle_step}
 use Rattle.rules.specs.Calls.{due}
 use Rattle.facts.specs.Lines.{Sound, valid-facts}
