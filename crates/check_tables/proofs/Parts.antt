@@ -1,8 +1,7 @@
 -- Valid tables, part by part as they are checked: where a part fails the whole does, and where all pass it holds.
 -- Assumes nothing.
 use mathlib.Core.Path.{◌≡◌, refl, sym, ◌∙◌}
-use mathlib.Core.Bool.{Bool, true, false, not, ◌&&◌, true≢false}
-use borrow.Author.Tests.{not-true, not-false}
+use mathlib.Core.Bool.{Bool, true, false, ◌&&◌, true≢false}
 use Rattle.laws.specs.Tests.{both, both_of, fails}
 use Rattle.shape.specs.declared.Shape.{Shape}
 use Rattle.rules.specs.Numbers.{FREEING, ALLOCATING}
@@ -79,8 +78,8 @@ of_parts s T p =
     }
 
 -- a part that fails, as a call answered it
-refuted : (v p : Bool) {r : Bool} → (v ≡ true → p ≡ true) → r ≡ p → not r ≡ true → false ≡ v
-refuted v p {r} h e n = fails v (λ q. true≢false (sym (h q) ∙ sym e ∙ not-true r n))
+refuted : (v p : Bool) {r : Bool} → (v ≡ true → p ≡ true) → r ≡ p → r ≡ false → false ≡ v
+refuted v p {r} h e n = fails v (λ q. true≢false (sym (h q) ∙ sym e ∙ n))
 
 -- two tests that pass together are one
 alike : (a b : Bool) → (a ≡ true → b ≡ true) → (b ≡ true → a ≡ true) → a ≡ b
@@ -92,31 +91,31 @@ module _ (s : Shape) (T : State) where
   parts : valid s T ≡ true → Parts s T
   parts q = parts-of s T (valid-facts s T q)
 
-  pub tree-fails : {r : Bool} → r ≡ tree s T → not r ≡ true → false ≡ valid s T
+  pub tree-fails : {r : Bool} → r ≡ tree s T → r ≡ false → false ≡ valid s T
   tree-fails = refuted (valid s T) (tree s T) (λ q. (parts q).tree)
 
-  pub lists-fail : {r : Bool} → r ≡ lists s T → not r ≡ true → false ≡ valid s T
+  pub lists-fail : {r : Bool} → r ≡ lists s T → r ≡ false → false ≡ valid s T
   lists-fail = refuted (valid s T) (lists s T) (λ q. (parts q).lists)
 
-  pub calls-fail : {r : Bool} → r ≡ calls s T → not r ≡ true → false ≡ valid s T
+  pub calls-fail : {r : Bool} → r ≡ calls s T → r ≡ false → false ≡ valid s T
   calls-fail = refuted (valid s T) (calls s T) (λ q. (parts q).calls)
 
-  pub hands-fail : {r : Bool} → r ≡ hands s T → not r ≡ true → false ≡ valid s T
+  pub hands-fail : {r : Bool} → r ≡ hands s T → r ≡ false → false ≡ valid s T
   hands-fail = refuted (valid s T) (hands s T) (λ q. (parts q).hands)
 
   pub last-part :
-      {a b c d r : Bool} → a ≡ tree s T → not a ≡ false → b ≡ lists s T → not b ≡ false →
-      c ≡ calls s T → not c ≡ false → d ≡ hands s T → not d ≡ false → r ≡ queue s T → r ≡ valid s T
+      {a b c d r : Bool} → a ≡ tree s T → a ≡ true → b ≡ lists s T → b ≡ true →
+      c ≡ calls s T → c ≡ true → d ≡ hands s T → d ≡ true → r ≡ queue s T → r ≡ valid s T
   last-part {a} {b} {c} {d} {r} ea na eb nb ec nc ed nd e =
       alike r (valid s T)
       (λ q.
       facts-valid s T
       (of_parts s T
       (record {
-        tree = sym ea ∙ not-false a na;
-        lists = sym eb ∙ not-false b nb;
-        calls = sym ec ∙ not-false c nc;
-        hands = sym ed ∙ not-false d nd;
+        tree = sym ea ∙ na;
+        lists = sym eb ∙ nb;
+        calls = sym ec ∙ nc;
+        hands = sym ed ∙ nd;
         queue = sym e ∙ q;
       })))
       (λ q. e ∙ (parts q).queue)
