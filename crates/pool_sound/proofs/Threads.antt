@@ -2,10 +2,9 @@
 -- Assumes nothing.
 use mathlib.Core.Path.{◌≡◌, refl, sym, ◌∙◌, ap}
 use mathlib.Core.List.{List}
-use Prim.Native.Nat.{ℕ, ◌+◌, ◌*◌, ◌≤◌, ◌<◌}
+use Prim.Native.Nat.{ℕ, ◌+◌, ◌≤◌, ◌<◌}
 use native.Mathlib.Omega.{arith}
-use lib.ListN.{length}
-use borrow.Author.Tests.{lt-ltb, le-ltb, eq-eqb, ne_eqb}
+use borrow.Author.Tests.{lt-ltb, le-ltb, ne_eqb}
 use Rattle.shape.specs.declared.Shape.{Shape}
 use Rattle.shape.specs.Laws.{limits}
 use Rattle.rules.specs.declared.Device.{Device}
@@ -13,7 +12,7 @@ use Rattle.rules.specs.declared.Call.{Call}
 use Rattle.rules.specs.declared.Refusal.TheVariants.{NoThread, NotRunning}
 use Rattle.rules.specs.declared.Verdict.{Verdict}
 use Rattle.rules.specs.declared.Verdict.TheVariants.{Passed, Failed}
-use Rattle.rules.specs.Numbers.{CLOSED, CELLS}
+use Rattle.rules.specs.Numbers.{CLOSED}
 use Rattle.rules.specs.Tables.{state, call_of}
 use Rattle.rules.specs.Refusals.{running}
 use Rattle.facts.specs.Lines.{Sound}

@@ -1,6 +1,6 @@
 -- What is required of the tables that a call is lent: that there are others with which they are sound; and what that gives to its step.
 -- Assumes nothing.
-use Rattle.std.specs.Prelude.{◌≡◌, List, ℕ}
+use Rattle.std.specs.Prelude.{List, ℕ}
 use Rattle.shape.specs.declared.Shape.{Shape}
 use Rattle.rules.specs.declared.Device.{Device}
 use Rattle.rules.specs.Tables.{State, state}
