@@ -1,7 +1,6 @@
 -- A record that was found names its step: what the call promises of sound tables is what the record's step is.
 -- Assumes nothing.
-use mathlib.Core.Path.{◌≡◌, sym, ◌∙◌, ap}
-use mathlib.Core.Bool.{true, false, true≢false}
+use mathlib.Core.Path.{◌≡◌}
 use mathlib.Core.List.{List}
 use Prim.Native.Nat.{ℕ}
 use Rattle.shape.specs.declared.Shape.{Shape}
@@ -9,7 +8,7 @@ use Rattle.shape.specs.declared.time.Millis.{Millis}
 use Rattle.rules.specs.declared.Device.{Device}
 use Rattle.rules.specs.declared.Answer.{Answer}
 use Rattle.rules.specs.declared.script.Record.{Record}
-use Rattle.rules.specs.declared.script.Record.TheVariants.{Pool, Ask, ShortAsk, GoOn, Give, Switch, Tick, Whole}
+use Rattle.rules.specs.declared.script.Record.TheVariants.{Ask, ShortAsk, GoOn, Give, Switch, Tick, Whole}
 use Rattle.rules.specs.Tables.{State, state}
 use Rattle.facts.specs.Lines.{Sound}
 use Rattle.rules.specs.Steps.{Outcome, outcome}
@@ -17,11 +16,6 @@ use Rattle.rules.specs.Calls.{ask, go_on, give, switch, tick}
 use Rattle.rules.specs.Questions.{whole}
 use Rattle.rules.specs.Script.{short_wait}
 use Rattle.rules.specs.Listing.{record_step}
-use Rattle.script_read.specs.Forms.{is_pool}
-
--- a record that is no shape's is not found to be one
-pub no-pool : {r : Record} (q : Shape) → is_pool r ≡ false → r ≡ Pool q → ⊥
-no-pool q e f = true≢false (sym (ap is_pool f) ∙ e)
 
 -- what ask promises of the calls alone, whatever the other tables
 abbrev Asks : Shape → State → ℕ → ℕ → Millis → Answer → List ℕ → Type 0

@@ -1,6 +1,6 @@
 -- A script's records on sound tables: fresh tables are sound, each record leaves them sound, and none stops the run.
 -- Assumes nothing.
-use Rattle.std.specs.Prelude.{◌≡◌, refl, true, false}
+use Rattle.std.specs.Prelude.{◌≡◌, refl, false}
 use Rattle.std.proofs.Common.{true≢false}
 use Rattle.shape.specs.declared.Shape.{Shape}
 use Rattle.rules.specs.declared.script.Record.{Record}
