@@ -1,6 +1,6 @@
 -- The run as it goes on: what the records behind an offset need, and that with their lines all lines are written.
 -- Assumes nothing.
-use mathlib.Core.Path.{◌≡◌, refl, sym, ◌∙◌, ap}
+use mathlib.Core.Path.{◌≡◌, sym, ◌∙◌, ap}
 use mathlib.Core.Bool.{false}
 use mathlib.Core.List.{List}
 use Prim.Native.Nat.{ℕ, ◌+◌, ◌-◌, ◌≤◌, ◌<◌}
@@ -19,21 +19,12 @@ use Rattle.facts.specs.Lines.{Sound}
 use Rattle.rules.specs.Steps.{Outcome, outcome}
 use Rattle.rules.specs.Script.{tag_at, read_at}
 use Rattle.rules.specs.Listing.{record_step, line}
-use Rattle.pool_sound.specs.Sound.{right-lengths}
 use Rattle.script_lines.specs.Buffer.{LINE-MOST}
 use Rattle.script_read.specs.Forms.{is_pool}
 use Rattle.script_read.specs.Reads.{read_next, read-pool}
 use Rattle.script_turn.specs.Sounds.{record-sound, record-goes-on}
 use Rattle.script_run.specs.Listed.{Begun, Listed}
 use Rattle.script_run.proofs.Written.{same_shape, listed-none, listed-bad, listed-record}
-
--- tables of the same lengths
-pub record SameLengths (T U : State) : Type 0 where
-  pub states : length T.pool.states ≡ length U.pool.states
-  pub owners : length T.pool.owners ≡ length U.pool.owners
-  pub lists : length T.pool.lists ≡ length U.pool.lists
-  pub calls : length T.threads.calls ≡ length U.threads.calls
-  pub queue : length T.threads.queue ≡ length U.threads.queue
 
 -- a line is stored, and takes no more than its room
 abbrev pub Line : List ℕ → ℕ → ℕ → ℕ → Answer → ℕ → List ℕ → Type 0
@@ -53,37 +44,15 @@ pub record Going (xs : List ℕ) (s : Shape) (from : ℕ) (S : State) (first : L
       (after : List ℕ) (last : ℕ) → Listed xs n at s T out end after last → Listed xs 1 from s S first start after last
   pub same : length out ≡ length first
 
-pub starts :
-    {xs : List ℕ} {s : Shape} {from : ℕ} {S : State} {first : List ℕ} {start : ℕ} → Begun xs 1 from s S first start →
-    Going xs s from S first start 1 from S first start
-starts b = record { began = b.sound; here = b; rest = λ after last l. l; same = refl }
-
 module _ {xs : List ℕ} {s : Shape} {from : ℕ} {S : State} {first : List ℕ} {start n at : ℕ} {T : State} {out : List ℕ} {end : ℕ} (g : Going xs s from S first start n at T out end) where
   here : Begun xs n at s T out end
   here = g.here
-
-  -- the tables keep their lengths, which are the shape's
-  pub same-lengths : SameLengths T S
-  same-lengths =
-      let now = right-lengths here.sound in
-      let then = right-lengths g.began in
-      record {
-        states = now.states ∙ sym then.states;
-        owners = now.owners ∙ sym then.owners;
-        lists = now.lists ∙ sym then.lists;
-        calls = now.calls ∙ sym then.calls;
-        queue = now.queue ∙ sym then.queue;
-      }
 
   -- the run ends at the script's end
   pub ends : length xs ≤ at → Listed xs 1 from s S first start out end
   ends h = g.rest out end (listed-none h (omega (arith, here)))
 
   module _ (h : at < length xs) where
-    -- before it a line has room
-    pub line-room : (n < 100000) × (end + LINE-MOST ≤ length out)
-    line-room = (omega (arith, here), omega (arith, here))
-
     -- the run ends at a bad record
     pub ends-bad :
         {after : List ℕ} {last : ℕ} → read_at xs at ≡ Read.Bad →

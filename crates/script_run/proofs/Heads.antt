@@ -1,14 +1,11 @@
 -- The first record of a script: bad, or a shape that is refused, or one that is built and the other records run.
 -- Assumes nothing.
-use mathlib.Core.Path.{◌≡◌, refl, sym, ◌∙◌, ap, subst}
+use mathlib.Core.Path.{◌≡◌, refl, sym, ap, subst}
 use mathlib.Core.Bool.{true, false, false≢true}
-use mathlib.Core.List.{List, [], ◌∷◌}
+use mathlib.Core.List.{List}
 use Prim.Native.Nat.{ℕ}
 use native.Mathlib.Omega.{arith}
-use types.Run.{OneOf, miss}
-use denote.Enum.Declared.{tag_of}
 use Rattle.shape.specs.declared.Shape.{Shape}
-use Rattle.rules.specs.contracts.script.Record.{the_type}
 use Rattle.shape.specs.Limits.{allowed}
 use Rattle.rules.specs.declared.Refusal.TheVariants.{ShapeNotAllowed, BadRecord}
 use Rattle.rules.specs.declared.Answer.TheVariants.{Refused, Built}
@@ -50,9 +47,6 @@ module _ {xs out : List ℕ} {end : ℕ} (t : Titled xs out end) where
       AllListed xs out end after last
   listed-first e p = listed-bad t.some e (p.0, p.1) (omega arith)
 
-  pub heads : {r : Record} {next : ℕ} {s : Shape} → read_at xs 0 ≡ Read.Record r next → r ≡ Pool s → Headed xs next s out end
-  heads {next = next} e p = record { titled = t; first = e ∙ ap (λ (r : Record). Read.Record r next) p }
-
 module _ {xs : List ℕ} {next : ℕ} {s : Shape} {out : List ℕ} {end : ℕ} (g : Headed xs next s out end) where
   pub listed-refused :
       {after : List ℕ} {last : ℕ} → allowed s ≡ false → Line out end 0 (tag_at xs 0) (Refused ShapeNotAllowed) last after →
@@ -79,8 +73,8 @@ module _ {xs : List ℕ} {next : ℕ} {s : Shape} {out : List ℕ} {end : ℕ} (
         (subst (λ (U : State). Listed xs 1 next s U more middle after last) e l)
 
 -- a record that is a shape's is not found to be another
-pub only-pool : (r : Record) → is_pool r ≡ true → OneOf (1 ∷ 2 ∷ 3 ∷ 4 ∷ 5 ∷ 6 ∷ 7 ∷ []) (tag_of the_type r) → ⊥
-only-pool (Pool q) e h = miss (1 ∷ 2 ∷ 3 ∷ 4 ∷ 5 ∷ 6 ∷ 7 ∷ []) 0 tt h
+pub only-pool : (r : Record) → is_pool r ≡ true → ((q : Shape) → r ≡ Pool q → ⊥) → ⊥
+only-pool (Pool q) e h = h q refl
 only-pool (Ask t size m) e h = false≢true e
 only-pool (ShortAsk t size) e h = false≢true e
 only-pool (GoOn t) e h = false≢true e

@@ -13,7 +13,7 @@ use Rattle.rules.specs.declared.Answer.TheVariants.{Refused}
 use Rattle.rules.specs.Numbers.{MOST-BYTES}
 use Rattle.rules.specs.Tables.{fresh}
 use Rattle.rules.specs.Listing.{header, line, lines, no_shape, listing}
-use Rattle.script_run.specs.Listed.{LISTING-MOST, AllListed, Titled}
+use Rattle.script_run.specs.Listed.{LISTING-MOST, AllListed}
 use Rattle.script_run.proofs.Going.{Line}
 
 -- the listing stands in the buffer from its start on, and the place behind it is known
@@ -46,15 +46,6 @@ module _ (xs out : List ℕ) {headed : List ℕ} {end : ℕ} (l : length out ≡
 
   -- any other script is run
   module _ (n : length xs ≡ 0 → ⊥) (m : length xs ≤ MOST-BYTES) where
-    pub titled : Titled xs headed end
-    titled =
-        record {
-          some = omega arith;
-          short = m;
-          room = omega arith;
-          long = omega (arith, ap length h.1, length-sets out 0 header);
-        }
-
     pub run-whole : {last : ℕ} {after : List ℕ} → AllListed xs headed end after last → Whole xs out last after
     unfolding listing
     run-whole p =
