@@ -6,10 +6,10 @@ use Rattle.std.proofs.Math.Nat.{lt-div-mul-add, div-eq_of_lt-le}
 use Rattle.shape.specs.declared.Shape.{Shape}
 use Rattle.shape.specs.Blocks.{size, count, offset, bytes}
 use Rattle.shape.specs.Laws.{Limits}
-use Rattle.shape.specs.Offsets.{size-some, count-fills, over-inside}
+use Rattle.shape.specs.Offsets.{count-fills, over-inside}
 use Rattle.rules.specs.Numbers.{FREE}
 use Rattle.rules.specs.Tables.{state_at}
-use Rattle.proved_bytes.specs.Runs.{Free, Run}
+use Rattle.proved_bytes.specs.Runs.{Free}
 use Rattle.proved_bytes.specs.Room.{Room}
 use Rattle.proved_bytes.specs.Tables.{state_in, state-inside, state-known}
 
@@ -49,17 +49,6 @@ module _ (s : Shape) (states : List ℕ) (h : Limits s) where
 
   pub tree_free : (y : ℕ) → y < bytes s → FreeByte s states y → Free s.levels (size s) (state_in s states) y
   tree_free y k (l, q, e) = (l, q, state-inside s states l (y / size s l) (over-inside s l y h q k) ∙ e)
-
-  pub run-tree :
-      (k b : ℕ) → k < s.levels → b < count s k →
-      FreeRun s states k b ↔ Run s.levels (size s) (state_in s states) k b
-  run-tree k b q i = (
-    λ r y e. let w = (lies_in s k b y some).0 e in tree_free y (byte_inside s k b y h q i w.1) (r y w.0 w.1),
-    λ r y m n. free-tree y (r y ((lies_in s k b y some).1 (m, n))),
-  )
-    where
-      some : 1 ≤ size s k
-      some = size-some s k h q
 
   pub room-tree : (k : ℕ) → k < s.levels → FreeBlock s states k ↔ Room (state_in s states) k
   room-tree k q = (

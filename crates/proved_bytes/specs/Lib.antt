@@ -4,7 +4,6 @@ pub mod Room
 pub mod Tables
 pub mod Bytes
 pub mod Whole
-pub mod RoomBytes
 pub mod Cover
 pub mod Requests
 pub mod Found

@@ -4,13 +4,8 @@
 use Rattle.std.specs.Prelude.{◌≡◌, refl, Bool, true, false, cond, ◌⊎◌, ℕ, zero, suc, ◌-◌, ◌≤◌, ◌<◌, leb}
 use Rattle.std.proofs.Common.{inl, inr, eq-or-lt_of_le, le_of_suc-le-suc, arith, leb-false}
 use Rattle.shape.specs.declared.Shape.{Shape}
-use Rattle.shape.specs.Limits.{allowed}
-use Rattle.shape.specs.Blocks.{size, bytes, level_from, level_for}
-use Rattle.shape.specs.Laws.{limits, level_for-inside, level_for-fits}
-use Rattle.rules.specs.Tables.{State}
-use Rattle.rules.specs.Valid.{valid}
-use Rattle.proved_bytes.specs.Bytes.{FreeByte, FreeBlock}
-use Rattle.proved_bytes.specs.RoomBytes.{room-more}
+use Rattle.shape.specs.Blocks.{size, level_from, level_for}
+use Rattle.shape.specs.Laws.{level_for-inside, level_for-fits}
 
 from-deepest : (s : Shape) (request l m : ℕ) → m ≤ l → request ≤ size s m → m ≤ level_from s l request
 unfolding level_from
@@ -36,14 +31,3 @@ pub level_for-smaller :
     level_for s request ≤ level_for s less
 level_for-smaller s less request n h k =
     level_for-deepest s less (level_for s request) (level_for-inside s request n) (omega (arith, level_for-fits s request k))
-
--- where each byte that is free in T is free in U, there is room in U for each size for which there is room in T, and for each smaller one
-pub room-smaller :
-    (s : Shape) (T U : State) → allowed s ≡ true → valid s T ≡ true → valid s U ≡ true →
-    ((y : ℕ) → y < bytes s → FreeByte s T.pool.states y → FreeByte s U.pool.states y) →
-    (less request : ℕ) → less ≤ request → request ≤ s.top_size →
-    FreeBlock s T.pool.states (level_for s request) → FreeBlock s U.pool.states (level_for s less)
-room-smaller s T U h v w f less request k q =
-    room-more s T U h v w f (level_for s request) (level_for s less)
-    (level_for-smaller s less request (limits s h).levels.0 k q)
-    (level_for-inside s less (limits s h).levels.0)

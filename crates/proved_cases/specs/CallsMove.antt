@@ -19,7 +19,8 @@ use Rattle.rules.specs.Steps.{Outcome, take_from, split_step, grant_step, first_
 use Rattle.history.specs.History.{Step, Build, GoOn, step_on}
 use Rattle.facts.specs.Stage.{listed_free, merging}
 use Rattle.facts.specs.Running.{Running, own-facts, uses-block, hand-placed, allocating, freeing}
-use Rattle.history.specs.Walk.{EachGoOn, each_step}
+use Rattle.history.specs.Walk.{EachGoOn}
+use Rattle.history.proofs.Walk.{each_step}
 use Rattle.proved_cases.specs.Moves.{Moves, moves-none, moves-one}
 use Rattle.proved_cases.specs.StepsMove.{split_moves, merge-moves}
 

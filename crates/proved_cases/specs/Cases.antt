@@ -6,7 +6,7 @@ use Rattle.shape.specs.Blocks.{size, level_for, id, offset}
 use Rattle.shape.specs.Time.{ticks}
 use Rattle.rules.specs.Numbers.{ALLOCATED, FREE, DIVIDED, FOUND}
 use Rattle.rules.specs.Tables.{State, state, free_list, call_of}
-use Rattle.proved_cases.specs.Table.{Case, row, same, agree, Holds, agree-holds}
+use Rattle.proved_cases.specs.Table.{Case, row, same, agree}
 use Rattle.history.specs.History.{Step, Build, Ask, GoOn, Give, Switch, Tick, Whole}
 use Rattle.proved_cases.specs.Computed.{every_rule, after, number_on, number_after, detail_after, free_after, room_after, cover_on, map_on}
 
@@ -108,10 +108,6 @@ cases =
     ∷ row (number_after (of64 2) ((Switch 0 ∷ asking 16 4) ++ (Give 0 257 ∷ GoOn 0 ∷ GoOn 0 ∷ [])) (Give 0 257) ∷ []) (12 ∷ [])
     ∷ []
 
-cases-agree : agree cases ≡ true
+pub cases-agree : agree cases ≡ true
 unfolding every_rule same agree
 cases-agree = refl
-
--- every row's two sides agree
-pub cases-hold : Holds cases
-cases-hold = agree-holds cases cases-agree

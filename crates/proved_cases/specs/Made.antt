@@ -1,7 +1,7 @@
 -- Document 01, 'Six states and their moves': each of the ten moves is made, and the table of moves has no other.
 -- Assumes nothing.
 use Rattle.std.specs.Prelude.{◌≡◌, refl, Bool, true, false, ◌&&◌, ◌||◌, ◌⊎◌, List, [], ◌∷◌, ℕ, ◌<◌, pos, get_or, take, eqb}
-use Rattle.std.proofs.Common.{sym, ◌∙◌, inl, inr, eqb-true}
+use Rattle.std.proofs.Common.{◌∙◌, inl, inr, eqb-true}
 use Rattle.std.specs.Bool.{beq}
 use Rattle.std.proofs.lemmas.Bool.{false≢true}
 use Rattle.laws.specs.Tests.{every, every-at, both, either}
@@ -66,7 +66,7 @@ right r =
     eqb (state_before (take r.record-number script) r.place) r.from
     && eqb (state_after (take r.record-number script) (get_or script r.record-number Whole) r.place) r.to
 
-all_right : List Row → Bool
+pub all_right : List Row → Bool
 all_right [] = true
 all_right (r ∷ rest) = right r && all_right rest
 
@@ -75,7 +75,7 @@ unfoldable pub named : ℕ → ℕ → List Row → Bool
 named a b [] = false
 named a b (r ∷ rest) = (eqb r.from a && eqb r.to b) || named a b rest
 
-rows_right : all_right rows ≡ true
+pub rows_right : all_right rows ≡ true
 unfolding every_rule all_right
 rows_right = refl
 
@@ -87,7 +87,7 @@ rows_named = refl
 pub moves-are-rows : (a b : ℕ) → a < 6 → b < 6 → may_move a b ≡ named a b rows
 moves-are-rows a b h k = alike (may_move a b) (named a b rows) (every-at 6 _ (every-at 6 _ rows_named a h) b k)
 
-made_in : (a b : ℕ) (rs : List Row) → all_right rs ≡ true → named a b rs ≡ true → Made a b
+pub made_in : (a b : ℕ) (rs : List Row) → all_right rs ≡ true → named a b rs ≡ true → Made a b
 unfolding all_right named
 made_in a b [] e q = absurd (false≢true q)
 made_in a b (r ∷ rest) e q =
@@ -109,7 +109,3 @@ made_in a b (r ∷ rest) e q =
           behind = eqb-true _ _ states.1 ∙ eqb-true r.to b ends.1;
         }
     go w (inr n) below = below w.1 n
-
--- each move of the table is made by some step
-pub each-move-made : (a b : ℕ) → a < 6 → b < 6 → may_move a b ≡ true → Made a b
-each-move-made a b h k e = made_in a b rows rows_right (sym (moves-are-rows a b h k) ∙ e)

@@ -1,23 +1,18 @@
 -- The public map: on sound tables it answers the number of undivided existing blocks and writes their ids by address, or refuses a row that
 -- is too short. Different blocks have different ids.
 -- Assumes nothing.
-use Rattle.std.specs.Prelude.{◌≡◌, refl, List, [], ◌∷◌, map, ℕ, suc, ◌<◌, ◌≤◌, length}
+use Rattle.std.specs.Prelude.{◌≡◌, List, map, ℕ, ◌<◌, length}
 use Rattle.std.proofs.Common.{sym, ◌∙◌, ap, arith}
 use Rattle.std.proofs.lemmas.List.Edits.{sets}
-use borrow.Author.Tests.{lt-ltb, le-ltb}
 use Rattle.shape.specs.declared.Shape.{Shape}
 use Rattle.shape.specs.Blocks.{bytes, id_block}
 use Rattle.shape.specs.Laws.{Limits}
-use Rattle.rules.specs.declared.Refusal.TheVariants.{RowTooShort}
-use Rattle.rules.specs.declared.Mapped.{Mapped}
 use Rattle.rules.specs.declared.Mapped.TheVariants.{Blocks}
 use Rattle.rules.specs.Tables.{State}
-use Rattle.rules.specs.Questions.{map_outcome, map_row, map_pool}
-use Rattle.facts.specs.Lines.{Sound}
-use Rattle.facts.specs.Verdict.{passes}
-use Rattle.proved_conserved.specs.Pairs.{id_of, map_pairs, ids-pairs}
-use Rattle.proved_conserved.specs.Partition.{Standing, Follow, map-follows, Among}
-use Rattle.proved_conserved.specs.Each.{Listed, map-all, map-once}
+use Rattle.rules.specs.Questions.{map_outcome, map_pool}
+use Rattle.proved_conserved.specs.Pairs.{id_of}
+use Rattle.proved_conserved.specs.Partition.{Standing, Follow, Among}
+use Rattle.proved_conserved.specs.Each.{Listed}
 
 -- what map answers, and the row afterwards, by the blocks that it lists: by address, each beginning where the last ended, from the pool's first
 -- byte to its last; every undivided existing block, and none twice. The row's further places stay as they were.
@@ -27,40 +22,6 @@ pub record MapAnswers (s : Shape) (T : State) (row : List ℕ) : Type 0 where
   pub every : (l b : ℕ) → Standing s T.pool.states l b → Listed blocks l b
   pub once : (l b : ℕ) (before behind : List (ℕ × ℕ)) → Among blocks before l b behind → Listed behind l b → ⊥
   pub answer : map_pool s T row ≡ map_outcome (Blocks (length blocks)) (sets row 0 (map (id_of s) blocks))
-
-length-map : (f : ℕ × ℕ → ℕ) (xs : List (ℕ × ℕ)) → length (map f xs) ≡ length xs
-length-map f [] = refl
-length-map f (x ∷ xs) = ap suc (length-map f xs)
-
-module _ (s : Shape) (T : State) (row : List ℕ) (g : Sound s T) where
-  pub map-answers : length (map_pairs s T.pool.states) ≤ length row → MapAnswers s T row
-  unfolding map_pool map_row
-  map-answers h =
-      record {
-        blocks = map_pairs s T.pool.states;
-        follow = map-follows s T g.shape g.valid;
-        every = map-all s T g.shape g.valid;
-        once = map-once s T g.shape g.valid;
-        answer =
-            rw (
-              passes g,
-              ids-pairs s T.pool.states,
-              length-map (id_of s) (map_pairs s T.pool.states),
-              le-ltb (length row) (length (map_pairs s T.pool.states)) h,
-            );
-      }
-
-  -- a row that is too short is left as it was
-  pub map-refuses :
-      length row < length (map_pairs s T.pool.states) → map_pool s T row ≡ map_outcome (Mapped.Refused RowTooShort) row
-  unfolding map_pool map_row
-  map-refuses h =
-      rw (
-        passes g,
-        ids-pairs s T.pool.states,
-        length-map (id_of s) (map_pairs s T.pool.states),
-        lt-ltb (length row) (length (map_pairs s T.pool.states)) h,
-      )
 
 -- an id names one block
 pub ids-differ :

@@ -10,7 +10,8 @@ use Rattle.rules.specs.declared.Answer.TheVariants.{Waiting}
 use Rattle.rules.specs.Tables.{State}
 use Rattle.rules.specs.Steps.{Outcome, take_from, split_step, grant_step, merge_step, settle_step}
 use Rattle.history.specs.History.{Step, Build, GoOn, Switch, Tick, step_on}
-use Rattle.history.specs.Walk.{EachGoOn, each_step}
+use Rattle.history.specs.Walk.{EachGoOn}
+use Rattle.history.proofs.Walk.{each_step}
 
 -- the clock and who runs
 abbrev device : ℕ → ℕ → Device

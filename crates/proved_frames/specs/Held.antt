@@ -21,12 +21,13 @@ use Rattle.rules.specs.Valid.{owners_known, valid}
 use Rattle.rules.specs.Steps.{Outcome, take_from, split_step, grant_step, merge_step, settle_step}
 use Rattle.rules.specs.Questions.{cover_level}
 use Rattle.proved_bytes.specs.Bytes.{HasByte, lies_in, byte_inside}
-use Rattle.proved_bytes.specs.Cover.{cover_one}
+use Rattle.proved_bytes.proofs.Cover.{cover_one}
 use Rattle.facts.specs.Lines.{Sound}
-use Rattle.history.specs.History.{Step, Build, GoOn, step_on, run_steps, Give}
+use Rattle.history.specs.History.{Step, Build, GoOn, step_on, Give}
 use Rattle.proved_valid.specs.Lines.{Facts, facts}
 use Rattle.proved_valid.specs.Histories.{steps-valid}
-use Rattle.history.specs.Walk.{EachGoOn, EachStep, each_step}
+use Rattle.history.specs.Walk.{EachGoOn, EachStep}
+use Rattle.history.proofs.Walk.{each_step}
 use Rattle.facts.specs.Running.{Running, allocating, hand-placed, uses-block}
 use Rattle.facts.specs.Stage.{alike}
 use Rattle.facts.specs.Given.{length-facts}
@@ -118,14 +119,6 @@ holds-stay s T x u k v n m w =
 unfoldable pub KeepsBlock : Shape → ℕ → ℕ → List Step → Type 0
 KeepsBlock s u k [] = ◌≡◌ {A = ℕ} 0 0
 KeepsBlock s u k (x ∷ xs) = (GivesBack s u k x → ⊥) × (x ≡ Build → ⊥) × KeepsBlock s u k xs
-
--- so it holds it over any such history
-pub history-holds :
-    (s : Shape) (T : State) (xs : List Step) (u k : ℕ) → Sound s T → KeepsBlock s u k xs → Holds T u k → Holds (run_steps s T xs) u k
-unfolding KeepsBlock run_steps
-history-holds s T [] u k v n w = w
-history-holds s T (x ∷ xs) u k v (n, m, rest) w =
-    history-holds s (step_on s T x).after xs u k (steps-valid s T x v) rest (holds-stay s T x u k v n m w)
 
 -- who is granted a block holds it
 record GrantHolds (s : Shape) (x : Step) (o : Outcome) : Type 0 where

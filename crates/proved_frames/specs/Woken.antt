@@ -17,7 +17,8 @@ use Rattle.facts.specs.Given.{length-facts, queue-room}
 use Rattle.facts.specs.Queue.{queue_ready, length-queue_of, queue_of-put_queue}
 use Rattle.facts.specs.Running.{Running, ready}
 use Rattle.history.specs.History.{Step, GoOn, step_on}
-use Rattle.history.specs.Walk.{EachGoOn, each_step}
+use Rattle.history.specs.Walk.{EachGoOn}
+use Rattle.history.proofs.Walk.{each_step}
 
 -- what a step leaves of the queue, by its answer
 pub record Wakes (T : State) (x : Step) (o : Outcome) : Type 0 where

@@ -8,29 +8,23 @@ use native.Mathlib.Omega.{arith}
 use Rattle.std.proofs.Math.ListN.{length}
 use Rattle.shape.specs.declared.Shape.{Shape}
 use Rattle.shape.specs.Limits.{parts, allowed}
-use Rattle.shape.specs.Blocks.{size, count, offset, id, place, bytes, level_for}
+use Rattle.shape.specs.Blocks.{size, count, offset, place, bytes, level_for}
 use Rattle.shape.specs.Laws.{limits, level_for-inside, place_inside}
 use Rattle.shape.specs.Offsets.{size-some}
-use Rattle.rules.specs.declared.Room.{Room}
-use Rattle.rules.specs.declared.Room.TheVariants.{At, Nowhere}
-use Rattle.rules.specs.declared.Answer.TheVariants.{Granted}
 use Rattle.rules.specs.Numbers.{ALLOCATED, ALLOCATING}
 use Rattle.rules.specs.Tables.{State, state_at, free_list}
 use Rattle.rules.specs.Valid.{valid}
 use Rattle.facts.specs.Lines.{valid-facts}
 use Rattle.facts.specs.Given.{length-facts, member-inside, parts_none}
-use Rattle.rules.specs.Steps.{Outcome, deepest, take_from, split_step, grant_step}
+use Rattle.rules.specs.Steps.{Outcome, take_from, split_step, grant_step}
 use Rattle.facts.specs.Stage.{listed_free}
 use Rattle.facts.specs.Running.{Running, hand-placed, allocating}
 use Rattle.proved_valid.specs.Splits.{split, split-wide}
 use Rattle.proved_bytes.specs.Bytes.{FreeByte, FreeRun, HasByte, lies_in, byte_inside}
-use Rattle.proved_bytes.specs.Cover.{cover_one}
-use Rattle.proved_bytes.specs.Found.{deepest-some}
-use Rattle.proved_granted.specs.Until.{request}
-use Rattle.proved_granted.specs.Divides.{dividing, Grant, grant-runs, grant-answer}
+use Rattle.proved_bytes.proofs.Cover.{cover_one}
+use Rattle.proved_granted.specs.Divides.{dividing, Grant, grant-runs}
 use Rattle.proved_granted.specs.Takes.{finding}
-use Rattle.proved_granted.specs.Request.{Asks, found, request-nowhere, request-granted}
-use Rattle.proved_granted.specs.Exactly.{IsGranted, no-grant}
+use Rattle.proved_granted.specs.Request.{Asks, found}
 use Rattle.proved_granted.specs.Bytes.{FreeOr, take-bytes, same_bytes, split-bytes, split-part}
 
 -- a run of free bytes, block b of level l, stopped being free, and no other byte did
@@ -97,15 +91,15 @@ module _ (s : Shape) (T : State) (t wanted l b : ℕ) (g : Running s T t (dividi
 
 module _ (s : Shape) (T : State) (t wanted : ℕ) (a : Asks s T t wanted) where
   -- what was free when it was asked is free, or lies in block b of level l, in hand
-  abbrev Held : State → ℕ → ℕ → Type 0
+  abbrev pub Held : State → ℕ → ℕ → Type 0
   Held U l b = (y : ℕ) → y < bytes s → FreeByte s T.pool.states y ↔ FreeOr s U.pool.states l b y
 
-  next :
+  pub next :
       (U : State) (l b : ℕ) → Running s U t (dividing wanted l b) → l < level_for s wanted → Held U l b →
       Held (split_step s U t (dividing wanted l b)).after (l + 1) (parts s * b)
   next U l b g h p y k = Iff.trans (p y k) (split-free s U t wanted l b g h y k)
 
-  first :
+  pub first :
       (l : ℕ) → l < s.levels → (b : ℕ) (bs : List ℕ) → free_list s T.pool.lists l ≡ b ∷ bs →
       Held (take_from s (found T t wanted l) t (finding wanted l) (b ∷ bs)).after l b
   unfolding take_from
@@ -120,7 +114,7 @@ module _ (s : Shape) (T : State) (t wanted : ℕ) (a : Asks s T t wanted) where
           (member-inside s T.pool.states T.pool.lists (valid-facts s T a.runs.sound.valid).pool.free_listed l 0 h (rw q (omega arith)))
 
   -- so once it is granted the bytes of that block have stopped being free, and no others
-  took :
+  pub took :
       (o : Outcome) (r : Grant s t wanted (λ U b. Held U (level_for s wanted) b) o) →
       Took s T.pool.states o.after.pool.states (level_for s wanted) r.block
   took o r =
@@ -156,28 +150,3 @@ module _ (s : Shape) (T : State) (t wanted : ℕ) (a : Asks s T t wanted) where
           FreeOr s r.tables.pool.states (level_for s wanted) r.block y → FreeByte s o.after.pool.states y
       kept y k n (inl f) = (unchanged y k).0 f
       kept y k n (inr w) = absurd (n (lies.0 w))
-
-  -- a request that is granted names a block of the level for its size, and takes its bytes
-  pub granted-took :
-      IsGranted (request s T t wanted) →
-      (b : ℕ) × ((request s T t wanted).answer ≡ Granted (id s (level_for s wanted) b))
-      × Took s T.pool.states (request s T t wanted).after.pool.states (level_for s wanted) b
-  granted-took i = go (deepest T.pool.lists (level_for s wanted)) refl
-    where
-      go :
-          (r : Room) → deepest T.pool.lists (level_for s wanted) ≡ r →
-          (b : ℕ) × ((request s T t wanted).answer ≡ Granted (id s (level_for s wanted) b))
-          × Took s T.pool.states (request s T t wanted).after.pool.states (level_for s wanted) b
-      go (At l) e = (grant.block, grant-answer s t wanted _ _ grant, took _ grant)
-        where
-          level : l < s.levels
-          level =
-              omega (
-                arith,
-                deepest-some T.pool.lists (level_for s wanted) l e,
-                level_for-inside s wanted (limits s a.runs.sound.shape).levels.0,
-              )
-
-          grant : Grant s t wanted (λ U b. Held U (level_for s wanted) b) (request s T t wanted)
-          grant = request-granted s T t wanted a l e Held next (first l level)
-      go Nowhere e = absurd (no-grant (request s T t wanted) (ap (λ (o : Outcome). o.answer) (request-nowhere s T t wanted a e)) i)

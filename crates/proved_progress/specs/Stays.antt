@@ -10,8 +10,10 @@ use Rattle.rules.specs.Numbers.{CLOSED, WAITING}
 use Rattle.rules.specs.Tables.{State, call_of}
 use Rattle.rules.specs.Steps.{Outcome}
 use Rattle.history.specs.History.{Step, Build, Ask, GoOn, Give, Switch, Tick, Whole, step_on}
-use Rattle.history.specs.Walk.{EachGoOn, each_step}
-use Rattle.proved_frames.specs.Others.{maker, CallStays, others-stay}
+use Rattle.history.specs.Walk.{EachGoOn}
+use Rattle.history.proofs.Walk.{each_step}
+use Rattle.proved_frames.specs.Others.{maker, CallStays}
+use Rattle.proved_frames.proofs.Others.{others-stay}
 
 abbrev pub builds : Step → Bool
 builds Build = true

@@ -13,7 +13,8 @@ use Rattle.rules.specs.Calls.{build}
 use Rattle.facts.specs.Lines.{Sound}
 use Rattle.history.specs.History.{Step, Build, step_on, run_steps}
 use Rattle.facts.specs.Running.{Running}
-use Rattle.history.specs.Walk.{EachGoOn, EachStep, each_step}
+use Rattle.history.specs.Walk.{EachGoOn, EachStep}
+use Rattle.history.proofs.Walk.{each_step}
 use Rattle.proved_valid.specs.Lines.{Facts, facts, sound-of}
 use Rattle.proved_valid.specs.Asks.{ask-kept, switch_kept, tick-kept}
 use Rattle.proved_valid.specs.Looks.{end_kept, find-kept, block-kept}

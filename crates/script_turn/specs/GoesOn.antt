@@ -13,7 +13,8 @@ use Rattle.rules.specs.Steps.{Outcome, take_from, split_step, grant_step, merge_
 use Rattle.rules.specs.Listing.{stops}
 use Rattle.facts.specs.Lines.{Sound}
 use Rattle.history.specs.History.{Step, step_on}
-use Rattle.history.specs.Walk.{closes, EachGoOn, each_step}
+use Rattle.history.specs.Walk.{closes, EachGoOn}
+use Rattle.history.proofs.Walk.{each_step}
 
 -- the run goes on behind a step
 pub record GoesOn (o : Outcome) : Type 0 where

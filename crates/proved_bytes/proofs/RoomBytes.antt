@@ -13,10 +13,12 @@ use Rattle.rules.specs.Numbers.{FREE}
 use Rattle.rules.specs.Tables.{State, state_at}
 use Rattle.rules.specs.Valid.{valid}
 use Rattle.facts.specs.Lines.{valid-facts}
-use Rattle.proved_bytes.specs.Runs.{Free, free-block, free-inside}
-use Rattle.proved_bytes.specs.Room.{room, room-freer}
+use Rattle.proved_bytes.specs.Runs.{Free, free-inside}
+use Rattle.proved_bytes.proofs.Runs.{free-block}
+use Rattle.proved_bytes.proofs.Room.{room, room-freer}
 use Rattle.proved_bytes.specs.Tables.{state_in, state-inside, state-known, sizes_of, tree_of}
-use Rattle.proved_bytes.specs.Bytes.{FreeByte, FreeRun, FreeBlock, free-tree, tree_free, run-tree, room-tree}
+use Rattle.proved_bytes.specs.Bytes.{FreeByte, FreeRun, FreeBlock, free-tree, tree_free, room-tree}
+use Rattle.proved_bytes.proofs.Bytes.{run-tree}
 
 -- a block of the shape starts in the pool
 starts : (s : Shape) (k b : ℕ) → Limits s → k < s.levels → (b < count s k) ↔ (offset s k b < bytes s)

@@ -1,0 +1,4 @@
+pub mod Divides
+pub mod Request
+pub mod Exactly
+pub mod Took
