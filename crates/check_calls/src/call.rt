@@ -1,4 +1,6 @@
 // What is said of one call by itself.
+#![tactic(auto, unfolding(crate::proofs::Lines::every_line))]
+
 ghost use Rattle.std.specs.Prelude.{◌≡◌, true, not, ◌||◌, ◌<◌, ◌^◌, leb, eqb};
 ghost use Rattle.shape.specs.Limits.{allowed};
 ghost use Rattle.shape.specs.Blocks.{level_for};
@@ -12,14 +14,14 @@ use shape::time::Millis;
 fn uses_wait(c: Call) -> bool
     ensures { result ≡ uses_wait c }
 {
-    (c.stage == rules::ASKED) | (c.stage == rules::WAITING) | (c.stage == rules::FOUND)
+    matches!(c.stage, rules::ASKED | rules::WAITING | rules::FOUND)
 }
 
 // Whether a call has a block in hand.
 pub fn uses_block(c: Call) -> bool
     ensures { result ≡ uses_block c }
 {
-    (c.stage == rules::DIVIDING) | (c.stage == rules::RELEASING)
+    matches!(c.stage, rules::DIVIDING | rules::RELEASING)
 }
 
 // Whether the stage and the kind of wait are known, and the fields that the stage doesn't use hold zero.
@@ -28,13 +30,13 @@ fn fields_used(c: Call) -> bool
 {
     let wait = uses_wait(c);
     let block = uses_block(c);
-    (c.stage <= rules::WAITING)
-        & (c.wait <= rules::TIMED)
-        & (wait | (c.stage == rules::DIVIDING) | (c.size == 0))
-        & (wait | (c.wait == 0))
-        & ((wait & (c.wait == rules::TIMED)) | (c.deadline == 0))
-        & ((c.stage == rules::FOUND) | block | (c.level == 0))
-        & (block | (c.block == 0))
+    c.stage <= rules::WAITING
+        && c.wait <= rules::TIMED
+        && (wait || c.stage == rules::DIVIDING || c.size == 0)
+        && (wait || c.wait == 0)
+        && ((wait && c.wait == rules::TIMED) || c.deadline == 0)
+        && (c.stage == rules::FOUND || block || c.level == 0)
+        && (block || c.block == 0)
 }
 
 // Whether a block in hand is a block of the shape.
@@ -42,14 +44,7 @@ fn hand_inside(s: Shape, c: Call) -> bool
     requires { allowed s ≡ true }
     ensures { result ≡ hand_inside s c }
 {
-    if !uses_block(c) {
-        return true;
-    }
-    let level = c.level;
-    if s.levels <= level {
-        return false;
-    }
-    c.block < s.count(level)
+    !uses_block(c) || (c.level < s.levels && c.block < s.count(c.level))
 }
 
 // Whether the level of a call at this stage is not deeper than its target.
@@ -57,10 +52,7 @@ fn not_deeper(s: Shape, stage: usize, c: Call) -> bool
     requires { allowed s ≡ true }
     ensures { result ≡ (not (eqb c.stage stage) || leb c.level (level_for s c.size)) }
 {
-    if c.stage != stage {
-        return true;
-    }
-    c.level <= s.level_for(c.size)
+    c.stage != stage || c.level <= s.level_for(c.size)
 }
 
 // Whether a timed deadline is not too far, and above the clock while waiting.
@@ -68,16 +60,16 @@ fn deadline_kept(clock: usize, c: Call) -> bool
     requires { clock < 2 ^ 32 }
     ensures { result ≡ deadline_kept clock c }
 {
-    !(uses_wait(c) & (c.wait == rules::TIMED))
-        | ((c.deadline <= clock + Millis::longest_in_ticks())
-            & ((c.stage != rules::WAITING) | (clock < c.deadline)))
+    !(uses_wait(c) && c.wait == rules::TIMED)
+        || (c.deadline <= clock + Millis::longest_in_ticks()
+            && (c.stage != rules::WAITING || clock < c.deadline))
 }
 
 // Whether a call that waits may wait.
 fn may_wait(c: Call) -> bool
     ensures { result ≡ may_wait c }
 {
-    (c.stage != rules::WAITING) | (c.wait != rules::NEVER)
+    c.stage != rules::WAITING || c.wait != rules::NEVER
 }
 
 // Whether all that is said of one call holds: of a closed one, that it holds zeros.
@@ -86,13 +78,13 @@ pub fn call_kept(s: Shape, clock: usize, c: Call) -> bool
     ensures { result ≡ call_kept s clock c }
 {
     if c.stage == rules::CLOSED {
-        return (c.size == 0) & (c.wait == 0) & (c.deadline == 0) & (c.level == 0) & (c.block == 0);
+        return c == Call::closed();
     }
     fields_used(c)
-        & hand_inside(s, c)
-        & not_deeper(s, rules::DIVIDING, c)
-        & (c.size <= s.top_size)
-        & not_deeper(s, rules::FOUND, c)
-        & deadline_kept(clock, c)
-        & may_wait(c)
+        && hand_inside(s, c)
+        && not_deeper(s, rules::DIVIDING, c)
+        && c.size <= s.top_size
+        && not_deeper(s, rules::FOUND, c)
+        && deadline_kept(clock, c)
+        && may_wait(c)
 }

@@ -16,11 +16,10 @@ pub fn calls_valid(s: Shape, clock: usize, calls: &[u64]) -> bool
     requires { (allowed s ≡ true) × (clock < 2 ^ 32) × (length calls.now ≡ CELLS * s.threads) }
     ensures { result ≡ calls_kept s clock calls.now }
 {
-    let mut ok = true;
-    let mut t = 0;
-    while t < s.threads {
-        ok = ok & call::call_kept(s, clock, call_of(calls, t));
-        t += 1;
+    for t in 0..s.threads {
+        if !call::call_kept(s, clock, call_of(calls, t)) {
+            return false;
+        }
     }
-    ok
+    true
 }

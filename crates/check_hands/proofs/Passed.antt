@@ -1,117 +1,37 @@
--- One turn and the end of each loop of this crate.
+-- One turn and the end of the loop over the calls, and what the calls that are counted are.
 -- Assumes nothing.
-use mathlib.Core.Path.{◌≡◌, refl, sym, ◌∙◌, ap, ap₂}
-use mathlib.Core.Bool.{Bool, true, false, ◌&&◌, and-true, and-false}
-use mathlib.Core.List.{List}
-use Prim.Native.Nat.{ℕ, ◌+◌, ◌*◌, ◌≤◌, ◌<◌}
-use native.Mathlib.Nat.{add-zero}
-use native.Mathlib.Omega.{arith}
-use lib.Dec.{eqb}
-use mir.Val.{bool_byte}
-use borrow.Author.Tests.{eqb-true, eq-eqb, ne_eqb}
-use Rattle.laws.specs.Tests.{bit, both, both_of, every, every-none, every_more, every-both, tally, tally-none, tally-more, tally-most}
+use Rattle.std.proofs.Common.{◌≡◌, refl, sym, ◌∙◌, ap₂, Bool, true, false, cond, ◌&&◌, ◌⊎◌, inl, inr, List, [], ◌∷◌, length, map, ℕ, zero, suc, ◌+◌, ◌*◌, ◌≤◌, ◌<◌, eqb, add-zero, add-one, arith, length-append, eqb-true, eq-eqb, ne_eqb}
+use Rattle.std.specs.List.{filter, range_with_len}
+use Rattle.std.proofs.lemmas.List.FromFn.{filter_of_map_range_with_len_more}
+use Rattle.std.proofs.Math.Bool.{and-true, and-false, or-true}
+use Rattle.laws.specs.Tests.{bit, both, both_of, every, every-none, every_more, every-not, every-both, tally, tally-none, tally-more, tally-most}
 use Rattle.laws.specs.Times.{same_test}
 use Rattle.shape.specs.declared.Shape.{Shape}
+use Rattle.shape.specs.Limits.{allowed}
+use Rattle.shape.specs.Blocks.{blocks}
 use Rattle.rules.specs.declared.Call.{Call}
-use Rattle.rules.specs.Numbers.{FREEING, ALLOCATING, DIVIDING, RELEASING}
+use Rattle.rules.specs.Numbers.{CELLS, FREEING, ALLOCATING, DIVIDING, RELEASING}
 use Rattle.rules.specs.Tables.{call_of}
 use Rattle.rules.specs.Valid.{dividing, releasing, one_to_one}
-use Rattle.check_counts.specs.Counted.{byte-bit, counted, counted-two}
-use Rattle.check_hands.specs.Hands.{at_stage, alone_with, hand_alone, Hands, corresponds, alone-fewer}
+use Rattle.check_counts.specs.Counted.{counted, counted-two}
+use Rattle.check_hands.specs.Hands.{hands_inside, at_stage, alone_with, hand_alone, hand_known, Lent, Hands, hands, hand_at, corresponds, alone-fewer}
 
--- n of the first t threads' calls pass a test
-pub record Passed (s : Shape) (calls : List ℕ) (test : Call → Bool) (t n : ℕ) : Type 0 where
-  pub inside : t ≤ s.threads
-  pub told : n ≡ tally t (λ u. test (call_of calls u))
-
-pub passed_none : (s : Shape) (calls : List ℕ) (test : Call → Bool) → Passed s calls test 0 0
-passed_none s calls test = record { inside = omega arith; told = sym (tally-none _) }
-
--- no more than there are threads
-pub passed-most : {s : Shape} {calls : List ℕ} {test : Call → Bool} {t n : ℕ} → Passed s calls test t n → n ≤ s.threads
-passed-most {calls = calls} {test} {t} p = omega (arith, p.inside, p.told, tally-most t (λ u. test (call_of calls u)))
-
--- one call more
-pub passed-more :
-    {s : Shape} {calls : List ℕ} (test : Call → Bool) {t n : ℕ} (c : Call) → Passed s calls test t n → t < s.threads →
-    c ≡ call_of calls t → Passed s calls test (t + 1) (n + bool_byte (test c))
-passed-more test c p h e = record { inside = omega arith; told = rw (p.told, e, tally-more, byte-bit) }
-
--- all calls
-pub passed-all :
-    {s : Shape} {calls : List ℕ} {test : Call → Bool} {t n : ℕ} → Passed s calls test t n → s.threads ≤ t →
-    n ≡ tally s.threads (λ u. test (call_of calls u))
-passed-all {s} {calls} {test} {t} p h =
-    let q : t ≡ s.threads = omega (arith, p.inside) in
-    p.told ∙ ap (λ (n : ℕ). tally n (λ u. test (call_of calls u))) q
+-- as many of the first n threads' calls pass as a list of these calls keeps
+pub kept-tally : (n : ℕ) (f : ℕ → Call) (p : Call → Bool) → length (filter p (map f (range_with_len 0 n))) ≡ tally n (λ t. p (f t))
+unfolding tally
+kept-tally zero f p = refl
+kept-tally (suc n) f p =
+    rw (rw add-one at (filter_of_map_range_with_len_more p f 0 n n (omega arith)), length-append, kept-tally n f p)
+    (last (p (f n)))
+  where
+    last : (b : Bool) → tally n (λ t. p (f t)) + length (cond b (f n ∷ []) []) ≡ tally n (λ t. p (f t)) + bit b
+    last true = refl
+    last false = refl
 
 -- a call at either stage is alone with a block of its state
 abbrev pub own_alone : Shape → List ℕ → List ℕ → Call → Bool
 own_alone s states calls c =
     hand_alone s states calls ALLOCATING dividing c && hand_alone s states calls FREEING releasing c
-
--- so many of the first t calls are dividing or releasing, and the flag says whether each of these is alone
-pub record Looked (s : Shape) (states calls : List ℕ) (ok : Bool) (n t : ℕ) : Type 0 where
-  pub inside : t ≤ s.threads
-  pub told-sum : n ≡ tally t (λ u. dividing (call_of calls u)) + tally t (λ u. releasing (call_of calls u))
-  pub told-ok : ok ≡ every t (λ u. own_alone s states calls (call_of calls u))
-
-pub looked-none : (s : Shape) (states calls : List ℕ) → Looked s states calls true 0 0
-looked-none s states calls = record { inside = omega arith; told-sum = simp tally-none; told-ok = sym (every-none _) }
-
--- no more than two for each thread
-pub looked-most : {s : Shape} {states calls : List ℕ} {ok : Bool} {n t : ℕ} → Looked s states calls ok n t → n ≤ 2 * s.threads
-looked-most {calls = calls} {t = t} p =
-    omega (
-      arith,
-      p.inside,
-      p.told-sum,
-      tally-most t (λ u. dividing (call_of calls u)),
-      tally-most t (λ u. releasing (call_of calls u)),
-    )
-
--- one call more
-looked-more :
-    {s : Shape} {states calls : List ℕ} {ok : Bool} {n t : ℕ} (c : Call) {a d r : Bool} → Looked s states calls ok n t →
-    t < s.threads → c ≡ call_of calls t → dividing c ≡ d → releasing c ≡ r → own_alone s states calls c ≡ a →
-    Looked s states calls (ok && a) (n + (bit d + bit r)) (t + 1)
-looked-more {s} {states} {calls} {t = t} c p h e q v w =
-    record {
-      inside = omega arith;
-      told-sum =
-          omega (
-            arith,
-            p.told-sum,
-            tally-more t (λ u. dividing (call_of calls u)),
-            tally-more t (λ u. releasing (call_of calls u)),
-            ap bit (sym (ap dividing e) ∙ q),
-            ap bit (sym (ap releasing e) ∙ v),
-          );
-      told-ok = rw (every_more, ← p.told-ok, ← e, w);
-    }
-
--- a dividing call, a releasing one, and any other
-pub looked-dividing :
-    {s : Shape} {states calls : List ℕ} {ok : Bool} {n t : ℕ} (c : Call) {a : Bool} → Looked s states calls ok n t →
-    t < s.threads → c ≡ call_of calls t → c.stage ≡ DIVIDING → a ≡ alone_with s states calls ALLOCATING (at_stage c.stage) c →
-    Looked s states calls (ok && a) (n + 1) (t + 1)
-looked-dividing c p h e q w =
-    looked-more c p h e (ap (λ (n : ℕ). eqb n DIVIDING) q) (ap (λ (n : ℕ). eqb n RELEASING) q) (rw (w, q, and-true))
-
-pub looked-releasing :
-    {s : Shape} {states calls : List ℕ} {ok : Bool} {n t : ℕ} (c : Call) {a : Bool} → Looked s states calls ok n t →
-    t < s.threads → c ≡ call_of calls t → c.stage ≡ RELEASING → a ≡ alone_with s states calls FREEING (at_stage c.stage) c →
-    Looked s states calls (ok && a) (n + 1) (t + 1)
-looked-releasing c p h e q w =
-    looked-more c p h e (ap (λ (n : ℕ). eqb n DIVIDING) q) (ap (λ (n : ℕ). eqb n RELEASING) q) (rw (w, q))
-
-pub looked-other :
-    {s : Shape} {states calls : List ℕ} {ok : Bool} {n t : ℕ} (c : Call) → Looked s states calls ok n t → t < s.threads →
-    c ≡ call_of calls t → (c.stage ≡ DIVIDING → ⊥) → (c.stage ≡ RELEASING → ⊥) → Looked s states calls ok n (t + 1)
-looked-other {s} {states} {calls} {ok} {n} c p h e q v =
-    let d = ne_eqb c.stage DIVIDING q in
-    let r = ne_eqb c.stage RELEASING v in
-    rw (and-true, add-zero) at (looked-more {ok = ok} {n = n} c {a = true} p h e d r (rw (d, r)))
 
 -- where both pairs are in order, their sums agree exactly if both agree
 meet :
@@ -131,20 +51,109 @@ meet f g t u true true h k = simp and-true (same_test _ _ there back)
 meet f g t u true false h k = simp and-false
 meet f g t u false b h k = simp and-false
 
--- all calls
-pub looked-all :
-    {s : Shape} {states calls : List ℕ} {ok : Bool} {n t m : ℕ} → Hands s states calls dividing →
-    Hands s states calls releasing → Looked s states calls ok n t → s.threads ≤ t →
-    m ≡ counted states ALLOCATING FREEING →
-    (eqb m n && ok) ≡ (one_to_one ALLOCATING dividing s states calls && one_to_one FREEING releasing s states calls)
-looked-all {s} {states} {calls} {t = t} d r p l e =
-    let q : t ≡ s.threads = omega (arith, p.inside) in
-    rw (e, counted-two states ALLOCATING FREEING (λ z. omega arith), p.told-sum, p.told-ok, q, each)
-    (meet _ _ _ _ _ _ (alone-fewer s states calls dividing d ALLOCATING) (alone-fewer s states calls releasing r FREEING)
-    ∙ ap₂ ◌&&◌ (corresponds s states calls dividing d ALLOCATING) (corresponds s states calls releasing r FREEING))
-  where
-    each :
-        every s.threads (λ u. own_alone s states calls (call_of calls u))
-        ≡ (every s.threads (λ u. hand_alone s states calls ALLOCATING dividing (call_of calls u))
-        && every s.threads (λ u. hand_alone s states calls FREEING releasing (call_of calls u)))
-    each = every-both s.threads _ _
+-- a call's stage asks for a block of this state in hand
+abbrev pub Holds : Call → ℕ → Type 0
+Holds c st = ((c.stage ≡ DIVIDING) × (st ≡ ALLOCATING)) ⊎ ((c.stage ≡ RELEASING) × (st ≡ FREEING))
+
+-- so many of the first t calls are dividing or releasing, and each of these is alone
+pub record Looked (s : Shape) (states calls : List ℕ) (n t : ℕ) : Type 0 where
+  pub sum : n ≡ tally t (λ u. dividing (call_of calls u)) + tally t (λ u. releasing (call_of calls u))
+  pub each : every t (λ u. own_alone s states calls (call_of calls u)) ≡ true
+
+pub looked-none : (s : Shape) (states calls : List ℕ) → Looked s states calls 0 0
+looked-none s states calls = record { sum = simp tally-none; each = every-none _ }
+
+-- no more than two for each thread
+pub looked-most : {s : Shape} {states calls : List ℕ} {n t : ℕ} → Looked s states calls n t → n ≤ 2 * t
+looked-most {calls = calls} {t = t} p =
+    omega (
+      arith,
+      p.sum,
+      tally-most t (λ u. dividing (call_of calls u)),
+      tally-most t (λ u. releasing (call_of calls u)),
+    )
+
+module _ (s : Shape) (states calls : List ℕ) (t : ℕ) (c : Call) (at : c ≡ call_of calls t) where
+  -- one call more
+  looked-more :
+      {n : ℕ} (k : ℕ) → Looked s states calls n t → bit (dividing c) + bit (releasing c) ≡ k → own_alone s states calls c ≡ true →
+      Looked s states calls (n + k) (t + 1)
+  looked-more k p e a =
+      record {
+        sum =
+            omega (
+              arith,
+              p.sum,
+              tally-more t (λ u. dividing (call_of calls u)),
+              tally-more t (λ u. releasing (call_of calls u)),
+              rw at at e,
+            );
+        each = rw every_more (both_of _ _ p.each (rw at at a));
+      }
+
+  -- of a call with a block in hand it is asked that it is alone with a block of that state
+  asked : (st : ℕ) → Holds c st → own_alone s states calls c ≡ alone_with s states calls st (at_stage c.stage) c
+  asked st (inl (e, v)) = rw (v, e, and-true)
+  asked st (inr (e, v)) = rw (v, e)
+
+  -- a call with a block in hand, and any other
+  pub looked-hand :
+      {n st : ℕ} → Looked s states calls n t → Holds c st → true ≡ alone_with s states calls st (at_stage c.stage) c →
+      Looked s states calls (n + 1) (t + 1)
+  looked-hand {st = st} p h a = looked-more 1 p (one h) (asked st h ∙ sym a)
+    where
+      one : Holds c st → bit (dividing c) + bit (releasing c) ≡ 1
+      one (inl (e, v)) = rw e
+      one (inr (e, v)) = rw e
+
+  pub looked-other :
+      {n : ℕ} → Looked s states calls n t → (c.stage ≡ DIVIDING → ⊥) → (c.stage ≡ RELEASING → ⊥) → Looked s states calls n (t + 1)
+  looked-other {n} p d r =
+      let q = ne_eqb c.stage DIVIDING d in
+      let v = ne_eqb c.stage RELEASING r in
+      rw add-zero at (looked-more {n = n} 0 p (rw (q, v)) (rw (q, v)))
+
+module _
+    (s : Shape) (states calls : List ℕ)
+    (given : (allowed s ≡ true) × (length states ≡ blocks s) × (length calls ≡ CELLS * s.threads) × (hands_inside s calls ≡ true)) where
+  -- blocks in hand are blocks of the shape
+  divided : Hands s states calls dividing
+  divided = hands s states calls dividing (λ c e. rw e) given
+
+  released : Hands s states calls releasing
+  released = hands s states calls releasing (λ c e. rw (e, or-true)) given
+
+  pub held :
+      (t : ℕ) (c : Call) (st : ℕ) → t < s.threads → c ≡ call_of calls t → Holds c st → Lent s states calls × hand_known s c
+  held t c st l q (inl (e, v)) = (divided.lent, hand_at divided t c q l (eq-eqb _ _ e))
+  held t c st l q (inr (e, v)) = (released.lent, hand_at released t c q l (eq-eqb _ _ e))
+
+  -- as many blocks of both states as calls at both stages, and each of these alone
+  both-ways :
+      (eqb (counted states ALLOCATING FREEING) (tally s.threads (λ u. dividing (call_of calls u)) + tally s.threads (λ u. releasing (call_of calls u)))
+      && every s.threads (λ u. own_alone s states calls (call_of calls u)))
+      ≡ (one_to_one ALLOCATING dividing s states calls && one_to_one FREEING releasing s states calls)
+  both-ways =
+      rw (counted-two states ALLOCATING FREEING (λ z. omega arith), each)
+      (meet _ _ _ _ _ _ (alone-fewer s states calls dividing divided ALLOCATING) (alone-fewer s states calls releasing released FREEING)
+      ∙ ap₂ ◌&&◌ (corresponds s states calls dividing divided ALLOCATING) (corresponds s states calls releasing released FREEING))
+    where
+      each :
+          every s.threads (λ u. own_alone s states calls (call_of calls u))
+          ≡ (every s.threads (λ u. hand_alone s states calls ALLOCATING dividing (call_of calls u))
+          && every s.threads (λ u. hand_alone s states calls FREEING releasing (call_of calls u)))
+      each = every-both s.threads _ _
+
+  -- a call that isn't alone
+  pub looked-out :
+      (t : ℕ) (c : Call) (st : ℕ) → t < s.threads → c ≡ call_of calls t → Holds c st →
+      false ≡ alone_with s states calls st (at_stage c.stage) c →
+      false ≡ (one_to_one ALLOCATING dividing s states calls && one_to_one FREEING releasing s states calls)
+  looked-out t c st l q h a =
+      rw (every-not s.threads _ t l (rw q at (asked s states calls t c q st h ∙ sym a)), and-false) at both-ways
+
+  -- all calls
+  pub looked-all :
+      {n t m : ℕ} → Looked s states calls n t → t ≡ s.threads → m ≡ counted states ALLOCATING FREEING →
+      eqb m n ≡ (one_to_one ALLOCATING dividing s states calls && one_to_one FREEING releasing s states calls)
+  looked-all p q e = rw (e, p.sum, q) (rw (rw q at p.each, and-true) at both-ways)

@@ -18,14 +18,10 @@ fn holders(s: Shape, calls: &[u64], stage: usize, level: usize, block: usize) ->
     requires { length calls.now ≡ CELLS * s.threads }
     ensures { result ≡ holders s calls.now (at_stage stage) level block }
 {
-    let mut sum = 0;
-    let mut t = 0;
-    while t < s.threads {
-        let c = call_of(calls, t);
-        sum += ((c.stage == stage) & (c.level == level) & (c.block == block)) as usize;
-        t += 1;
-    }
-    sum
+    (0..s.threads)
+        .map(|t| call_of(calls, t))
+        .filter(|c| (c.stage == stage) & (c.level == level) & (c.block == block))
+        .count()
 }
 
 // Whether a call has a block of a state in hand, which no other call at its stage has.
@@ -43,19 +39,18 @@ pub fn hands_valid(s: Shape, states: &[u8], calls: &[u64]) -> bool
     requires { (allowed s ≡ true) × (length states.now ≡ blocks s) × (length calls.now ≡ CELLS * s.threads) × (hands_inside s calls.now ≡ true) }
     ensures { result ≡ (one_to_one ALLOCATING dividing s states.now calls.now && one_to_one FREEING releasing s states.now calls.now) }
 {
-    let mut ok = true;
     let mut sum = 0;
-    let mut t = 0;
-    while t < s.threads {
+    for t in 0..s.threads {
         let c = call_of(calls, t);
-        t += 1;
-        if c.stage == rules::DIVIDING {
-            ok = ok & alone(s, states, calls, c, rules::ALLOCATING);
-            sum += 1;
-        } else if c.stage == rules::RELEASING {
-            ok = ok & alone(s, states, calls, c, rules::FREEING);
-            sum += 1;
+        let state = match c.stage {
+            rules::DIVIDING => rules::ALLOCATING,
+            rules::RELEASING => rules::FREEING,
+            _ => continue,
+        };
+        if !alone(s, states, calls, c, state) {
+            return false;
         }
+        sum += 1;
     }
-    (count_of(states, rules::ALLOCATING, rules::FREEING) == sum) & ok
+    count_of(states, rules::ALLOCATING, rules::FREEING) == sum
 }

@@ -1,23 +1,25 @@
 -- Marks, a bit a block: one member more is one bit more.
 -- Assumes nothing.
 use mathlib.Core.Path.{◌≡◌, refl, sym, ◌∙◌, ap, ap₂}
-use mathlib.Core.Bool.{Bool, true, false, ◌&&◌, ◌||◌}
-use mathlib.Core.List.{List}
-use Prim.Native.Nat.{ℕ, min, max, ◌+◌, ◌*◌, ◌-◌, ◌/◌, ◌%◌, ◌^◌, ◌≤◌, ◌<◌}
+use mathlib.Core.Bool.{Bool, true, false, not, ◌&&◌, ◌||◌, and_assoc, and-true}
+use mathlib.Core.List.{List, ◌++◌}
+use Prim.Native.Nat.{ℕ, min, max, ◌+◌, ◌*◌, ◌/◌, ◌%◌, ◌^◌, ◌≤◌, ◌<◌}
 use native.Mathlib.Nat.{add-zero, zero-div}
+use Rattle.std.proofs.Common.{zero-add}
+use Rattle.std.proofs.lemmas.List.{length-append, get_or_append_left, get_or-append-add}
 use native.Mathlib.Omega.{arith}
-use lib.ListN.{length, get_or, set, take, drop, length-set, length-drop, replicate, length-replicate}
-use lib.Seq.{get_or-set_same, get_or-set_other, get_or-take, get_or-drop, take_all, length-take-le}
+use lib.ListN.{length, get_or, set, take, length-set, replicate, length-replicate}
+use lib.Seq.{get_or-set_same, get_or-set_other, take_all}
 use lib.Bits.{bit_or, or_step, or_shr}
 use lib.Dec.{eqb, ltb}
 use borrow.Author.Tests.{ltb-true, eqb-true, eqb-false, eq-eqb, ne_eqb, lt-ltb}
-use Rattle.laws.specs.Tests.{bit, every, every-none, every-at, every-same}
+use Rattle.laws.specs.Tests.{bit, every, every-none, every-at, every-same, every_upto}
 use Rattle.laws.specs.Lists.{times}
 use Rattle.laws.specs.Times.{same_test, times_none, times_more}
 use Rattle.laws.specs.Changes.{get_or-zeros}
 use Rattle.shape.specs.Limits.{most_count}
 use Rattle.shape.specs.Levels.{every-behind}
-use Rattle.check_lists.specs.Level.{below}
+use Rattle.check_lists.specs.Level.{below, free}
 use Rattle.check_lists.specs.Marks.{row, marked_in, marked, free_marked, all_marked, Unmarked}
 
 -- a number with one bit, as the code makes it
@@ -122,49 +124,60 @@ pub marked_all :
     (b : ℕ) → b < most_count → marked marks b ≡ ltb 0 (times b members)
 marked_all {members} {marks} {i} m h b l = m.told b l ∙ rw (take_all i members)
 
--- each FREE block of the first rows is marked, as the flag says
-pub record Rows (states marks : List ℕ) (ok : Bool) (bit from : ℕ) : Type 0 where
-  pub inside : from ≤ length states
-  pub start : from < length states → from ≡ row * bit
-  pub told : ok ≡ every from (all_marked states marks)
+-- each FREE block behind the first rows is marked
+abbrev rest_marked : List ℕ → List ℕ → ℕ → ℕ → Bool
+rest_marked left marks bit i = not (free left i) || marked marks (row * bit + i)
 
-pub rows_none : (states marks : List ℕ) → Rows states marks true 0 0
-rows_none states marks = record { inside = omega arith; start = λ _. omega arith; told = sym (every-none _) }
+-- the flag says whether those before the states that are left are marked, which begin with a row
+pub record Rows (states marks left : List ℕ) (ok : Bool) (bit : ℕ) : Type 0 where
+  pub start : 0 < length left → row * bit + length left ≡ length states
+  pub told : (ok && every (length left) (rest_marked left marks bit)) ≡ every (length states) (all_marked states marks)
+
+pub rows_none : (states marks : List ℕ) → Rows states marks states true 0
+rows_none states marks = record { start = λ h. omega arith; told = every-same (length states) _ _ (λ i l. rw zero-add) }
+
+-- a part has its place in a row
+pub rows_fit :
+    {states marks left : List ℕ} {ok : Bool} {bit size : ℕ} (part : List ℕ) → Rows states marks left ok bit →
+    length states ≤ most_count → size ≡ row → length part ≡ min size (length left) → 0 < length left →
+    (length part ≤ row) × (row * bit + length part ≤ most_count)
+rows_fit part r few q h s = (omega (arith, h, q), omega (arith, r.start s, h, q))
 
 -- one row more
 pub rows_more :
-    {states marks : List ℕ} {ok : Bool} {bit from to : ℕ} {more : Bool} → Rows states marks ok bit from → from < length states →
-    to ≡ min (from + row) (length states) →
-    more ≡ every (length (take (to - from) (drop from states))) (free_marked (take (to - from) (drop from states)) marks bit) →
-    Rows states marks (ok && more) (bit + 1) to
-rows_more {states} {marks} {ok} {bit} {from} {to} {more} r h w e =
-    record { inside = omega arith; start = λ l. omega (arith, r.start h); told = told }
+    {states marks left : List ℕ} {ok more : Bool} {bit size : ℕ} (part rest : List ℕ) → Rows states marks left ok bit →
+    size ≡ row → left ≡ part ++ rest → length part ≡ min size (length left) → 0 < length left →
+    more ≡ every (length part) (free_marked part marks bit) → Rows states marks rest (ok && more) (bit + 1)
+rows_more {states} {marks} {left} {ok} {more} {bit} part rest r q e h s m = record { start = start; told = told }
   where
-    long : length (take (to - from) (drop from states)) ≡ to - from
-    long = length-take-le (to - from) (drop from states) (simp length-drop (omega arith))
+    long : length left ≡ length part + length rest
+    long = rw e (length-append part rest)
 
-    ends : from + (to - from) ≡ to
-    ends = omega arith
+    start : 0 < length rest → row * (bit + 1) + length rest ≡ length states
+    start l = omega (arith, r.start s, long, h, q)
 
-    here :
-        (i : ℕ) → i < to - from →
-        free_marked (take (to - from) (drop from states)) marks bit i ≡ all_marked states marks (from + i)
-    here i m =
-        let byte : (from + i) % row ≡ i = omega (arith, r.start h) in
-        let at : (from + i) / row ≡ bit = omega (arith, r.start h) in
-        rw (byte, at, get_or-take (to - from) (drop from states) i 0 m, get_or-drop)
+    here : (i : ℕ) → i < length part → rest_marked left marks bit i ≡ free_marked part marks bit i
+    here i l =
+        let byte : (row * bit + i) % row ≡ i = omega (arith, h, q) in
+        let at : (row * bit + i) / row ≡ bit = omega (arith, h, q) in
+        rw (byte, at, e, get_or_append_left part rest 0 i l)
 
-    told : (ok && more) ≡ every to (all_marked states marks)
-    told =
-        rw (r.told, e, long)
-        (ap (λ (a : Bool). every from (all_marked states marks) && a) (every-same (to - from) _ _ here)
-        ∙ sym (every-behind from (to - from) (all_marked states marks))
-        ∙ ap (λ (n : ℕ). every n (all_marked states marks)) ends)
+    there : (i : ℕ) → i < length rest → rest_marked left marks bit (length part + i) ≡ rest_marked rest marks (bit + 1) i
+    there i l =
+        let next : row * bit + (length part + i) ≡ row * (bit + 1) + i = omega (arith, long, h, q) in
+        rw (next, e, get_or-append-add part rest i 0)
+
+    both : every (length left) (rest_marked left marks bit) ≡ (more && every (length rest) (rest_marked rest marks (bit + 1)))
+    both =
+        rw (long, m) (every-behind (length part) (length rest) (rest_marked left marks bit)
+        ∙ ap₂ ◌&&◌ (every-same (length part) _ _ here) (every-same (length rest) _ _ there))
+
+    told : ((ok && more) && every (length rest) (rest_marked rest marks (bit + 1))) ≡ every (length states) (all_marked states marks)
+    told = and_assoc ok more _ ∙ ap (λ (t : Bool). ok && t) (sym both) ∙ r.told
 
 -- all rows
 pub rows_all :
-    {states marks : List ℕ} {ok : Bool} {bit from : ℕ} → Rows states marks ok bit from → length states ≤ from →
+    {states marks left : List ℕ} {ok : Bool} {bit : ℕ} → Rows states marks left ok bit → length left ≡ 0 →
     ok ≡ every (length states) (all_marked states marks)
-rows_all {states} {marks} {from = from} r h =
-    let q : from ≡ length states = omega (arith, r.inside) in
-    r.told ∙ ap (λ (n : ℕ). every n (all_marked states marks)) q
+rows_all {marks = marks} {left} {ok} {bit} r e =
+    sym (ap (λ (t : Bool). ok && t) (every_upto _ 0 (rest_marked left marks bit) e ∙ every-none _) ∙ and-true ok) ∙ r.told

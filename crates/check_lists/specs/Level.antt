@@ -1,9 +1,13 @@
 -- What validity says of one level's free list, from the level's own parts of the tables.
 -- Assumes nothing.
-use Rattle.std.specs.Prelude.{Bool, ◌&&◌, ◌||◌, List, ℕ, length, get_or, take, leb, ltb, eqb}
+use Rattle.std.specs.Prelude.{◌≡◌, Bool, ◌&&◌, ◌||◌, List, ℕ, length, get_or, take, leb, ltb, eqb}
 use Rattle.laws.specs.Tests.{bit, every}
 use Rattle.laws.specs.Lists.{times}
 use Rattle.rules.specs.Numbers.{FREE}
+
+-- what a closure answers is what this test says
+abbrev pub Tells : (ℕ → Bool → Type 0) → (ℕ → Bool) → Type 0
+Tells answers test = (x : ℕ) (b : Bool) → answers x b → b ≡ test x
 
 -- every cell holds zero
 abbrev pub zeros : List ℕ → Bool

@@ -1,5 +1,5 @@
 // Marks for the blocks of a level, a bit a block: block b is bit b / ROW of byte b % ROW, so that a run of blocks is a run of bytes.
-ghost use Rattle.std.specs.Prelude.{◌≡◌, true, ℕ, min, ◌+◌, ◌*◌, ◌<◌, ◌≤◌, length, ltb};
+ghost use Rattle.std.specs.Prelude.{◌≡◌, true, ℕ, ◌+◌, ◌*◌, ◌<◌, ◌≤◌, length, ltb};
 ghost use Rattle.laws.specs.Tests.{every};
 ghost use Rattle.laws.specs.Lists.{times};
 ghost use Rattle.shape.specs.Limits.{most_count};
@@ -17,37 +17,23 @@ pub fn mark(members: &[u16], marks: &mut [u8; ROW])
     requires { (below members.now most_count ≡ true) × Unmarked marks.old }
     ensures { (b : ℕ) → b < most_count → marked marks.new b ≡ ltb 0 (times b members.now) }
 {
-    let mut i = 0;
-    while i < members.len() {
-        let b = members[i] as usize;
-        marks[b % ROW] = marks[b % ROW] | (1 << (b / ROW));
-        i += 1;
+    for &member in members {
+        let b = member as usize;
+        marks[b % ROW] |= 1 << (b / ROW);
     }
 }
 
-// Whether each FREE block of a part is marked; the part begins where a bit's blocks do.
+// Whether each FREE block of a part is marked; the part begins where a bit's blocks do. By index: zipped with the marks, one
+// block took 5.2 ns, and not 4.2.
 fn row_marked(states: &[u8], marks: &[u8; ROW], bit: usize) -> bool
     requires { (length states.now ≤ row) × (row * bit + length states.now ≤ most_count) }
     ensures { result ≡ every (length states.now) (free_marked states.now marks.now bit) }
 {
     let mut ok = true;
-    let mut i = 0;
-    while i < states.len() {
-        ok = ok & ((states[i] != rules::FREE) | ((marks[i] >> bit) % 2 == 1));
-        i += 1;
+    for (i, &state) in states.iter().enumerate() {
+        ok &= (state != rules::FREE) | ((marks[i] >> bit) % 2 == 1);
     }
     ok
-}
-
-// Where a part of a level ends that begins here: behind a row, or with the level.
-fn row_end(from: usize, end: usize) -> usize
-    requires { from ≤ end }
-    ensures { result ≡ min (from + row) end }
-{
-    if end - from < ROW {
-        return end;
-    }
-    from + ROW
 }
 
 // Whether each FREE block of a level is marked.
@@ -56,13 +42,8 @@ pub fn all_marked(states: &[u8], marks: &[u8; ROW]) -> bool
     ensures { result ≡ every (length states.now) (all_marked states.now marks.now) }
 {
     let mut ok = true;
-    let mut bit = 0;
-    let mut from = 0;
-    while from < states.len() {
-        let to = row_end(from, states.len());
-        ok = ok & row_marked(&states[from..to], marks, bit);
-        from = to;
-        bit += 1;
+    for (bit, part) in states.chunks(ROW).enumerate() {
+        ok &= row_marked(part, marks, bit);
     }
     ok
 }

@@ -17,14 +17,16 @@ pub fn queue_ends(s: Shape, queue: &[u8]) -> bool
     requires { length queue.now ≡ s.threads + 1 }
     ensures { result ≡ queue_ends s queue.now }
 {
-    let end = queue[0] as usize;
-    let mut ok = end <= s.threads;
-    let mut i = 0;
-    while i < s.threads {
-        ok = ok & ((i < end) | (queue[1 + i] == 0));
-        i += 1;
-    }
-    ok
+    let end = usize::from(queue[0]);
+    (end <= s.threads) && queue[1 + end..].iter().all(|&entry| entry == 0)
+}
+
+// The members of the queue.
+fn members(queue: &[u8]) -> &[u8]
+    requires { get_or queue.now 0 0 + 1 ≤ length queue.now }
+    ensures { result.now ≡ queue_of queue.now }
+{
+    &queue[1..=waiting_count(queue)]
 }
 
 // Whether every member of the queue is a thread of the shape.
@@ -32,14 +34,9 @@ fn members_known(s: Shape, queue: &[u8]) -> bool
     requires { get_or queue.now 0 0 + 1 ≤ length queue.now }
     ensures { result ≡ every (length (queue_of queue.now)) (known s.threads queue.now) }
 {
-    let end = waiting_count(queue);
-    let mut ok = true;
-    let mut i = 0;
-    while i < end {
-        ok = ok & ((queue[i + 1] as usize) < s.threads);
-        i += 1;
-    }
-    ok
+    members(queue)
+        .iter()
+        .all(|&member| usize::from(member) < s.threads)
 }
 
 // How often a thread stands in the queue.
@@ -47,14 +44,10 @@ fn times_queued(thread: usize, queue: &[u8]) -> usize
     requires { get_or queue.now 0 0 + 1 ≤ length queue.now }
     ensures { result ≡ times thread (queue_of queue.now) }
 {
-    let end = waiting_count(queue);
-    let mut found = 0;
-    let mut i = 0;
-    while i < end {
-        found += (thread == queue[i + 1] as usize) as usize;
-        i += 1;
-    }
-    found
+    members(queue)
+        .iter()
+        .filter(|&&member| thread == usize::from(member))
+        .count()
 }
 
 // Whether each thread stands in the queue once where its call is waiting, and nowhere otherwise.
@@ -62,14 +55,13 @@ fn waiters_once(s: Shape, calls: &[u64], queue: &[u8]) -> bool
     requires { (length calls.now ≡ CELLS * s.threads) × (get_or queue.now 0 0 + 1 ≤ length queue.now) }
     ensures { result ≡ every s.threads (named calls.now queue.now) }
 {
-    let mut ok = true;
-    let mut t = 0;
-    while t < s.threads {
-        let stage = call_of(calls, t).stage;
-        ok = ok & (times_queued(t, queue) == (stage == rules::WAITING) as usize);
-        t += 1;
+    for t in 0..s.threads {
+        let waits = call_of(calls, t).stage == rules::WAITING;
+        if times_queued(t, queue) != usize::from(waits) {
+            return false;
+        }
     }
-    ok
+    true
 }
 
 // Whether the queue names each blocked thread once and nothing else.

@@ -1,4 +1,5 @@
 // The check that every public call but build begins with: the shape, the lengths of the tables, and whether they are a valid state.
+// The tables stand one by one: handed on as one struct, with what is known of them, map took 1,272 bytes of stack, and not 904.
 #![tactic(auto)]
 
 ghost use Rattle.std.specs.Prelude.{◌≡◌, true};
@@ -8,10 +9,12 @@ ghost use Rattle.rules.specs.Valid.{valid};
 ghost use Rattle.facts.specs.Given.{LengthFacts};
 ghost use Rattle.rules.specs.Refusals.{fitting, verdict};
 
-use rules::{Device, Refusal, Verdict};
+use rules::lengths::{Lengths, lengths_of};
+use rules::{Device, Refusal};
 use shape::Shape;
 
 // Whether each table has the length that the shape asks for.
+#[tactic(auto, unfolding(rules::specs::Tables::lengths, rules::specs::Tables::table_lengths))]
 fn lengths(
     s: Shape,
     states: &[u8],
@@ -23,12 +26,14 @@ fn lengths(
     requires { allowed s ≡ true }
     ensures { (d : Device) → result ≡ lengths s (state states.now owners.now lists.now calls.now queue.now d) }
 {
-    let blocks = s.blocks();
-    (states.len() == blocks)
-        & (owners.len() == blocks)
-        & (lists.len() == s.levels + blocks)
-        & (calls.len() == rules::CELLS * s.threads)
-        & (queue.len() == s.threads + 1)
+    let given = Lengths {
+        states: states.len(),
+        owners: owners.len(),
+        lists: lists.len(),
+        calls: calls.len(),
+        queue: queue.len(),
+    };
+    given == lengths_of(s)
 }
 
 // Whether tables of the right lengths are a valid state.
@@ -44,23 +49,15 @@ fn tables_valid(
     requires { (allowed s ≡ true) × LengthFacts s (state states.now owners.now lists.now calls.now queue.now d) }
     ensures { result ≡ valid s (state states.now owners.now lists.now calls.now queue.now d) }
 {
-    if !check_tree::tree_valid(s, states, owners) {
-        return false;
-    }
-    if !check_lists::lists_valid(s, states, lists) {
-        return false;
-    }
-    let clock = d.clock as usize;
-    if !check_calls::calls_valid(s, clock, calls) {
-        return false;
-    }
-    if !check_hands::hands_valid(s, states, calls) {
-        return false;
-    }
-    check_queue::queue_valid(s, calls, queue, d)
+    check_tree::tree_valid(s, states, owners)
+        && check_lists::lists_valid(s, states, lists)
+        && check_calls::calls_valid(s, d.clock as usize, calls)
+        && check_hands::hands_valid(s, states, calls)
+        && check_queue::queue_valid(s, calls, queue, d)
 }
 
 // The first of the refusals 1 and 2 that applies, if one does.
+#[tactic(auto, unfolding(rules::specs::Refusals::fitting))]
 pub fn fitting(
     s: Shape,
     states: &[u8],
@@ -68,16 +65,16 @@ pub fn fitting(
     lists: &[u16],
     calls: &[u64],
     queue: &[u8],
-) -> Verdict
+) -> Result<(), Refusal>
     ensures { (d : Device) → result ≡ fitting s (state states.now owners.now lists.now calls.now queue.now d) }
 {
     if !s.allowed() {
-        return Verdict::Failed(Refusal::ShapeNotAllowed);
+        return Err(Refusal::ShapeNotAllowed);
     }
     if !lengths(s, states, owners, lists, calls, queue) {
-        return Verdict::Failed(Refusal::WrongLength);
+        return Err(Refusal::WrongLength);
     }
-    Verdict::Passed
+    Ok(())
 }
 
 // The first of the refusals 1 to 3 that applies, if one does.
@@ -89,17 +86,12 @@ pub fn checked(
     calls: &[u64],
     queue: &[u8],
     d: Device,
-) -> Verdict
+) -> Result<(), Refusal>
     ensures { result ≡ verdict s (state states.now owners.now lists.now calls.now queue.now d) }
 {
-    let v = fitting(s, states, owners, lists, calls, queue);
-    match v {
-        Verdict::Failed(r) => Verdict::Failed(r),
-        Verdict::Passed => {
-            if !tables_valid(s, states, owners, lists, calls, queue, d) {
-                return Verdict::Failed(Refusal::NotValid);
-            }
-            Verdict::Passed
-        }
+    fitting(s, states, owners, lists, calls, queue)?;
+    if !tables_valid(s, states, owners, lists, calls, queue, d) {
+        return Err(Refusal::NotValid);
     }
+    Ok(())
 }

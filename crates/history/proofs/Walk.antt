@@ -1,6 +1,6 @@
 -- The walk over one step of a history: what holds of each way in which a step may end holds of the step.
 -- Assumes nothing.
-use Rattle.std.specs.Prelude.{◌≡◌, Bool, true, false, cond, ◌&&◌, ℕ, ◌<◌, eqb}
+use Rattle.std.specs.Prelude.{Ok, Err, Some, None, Option, ◌≡◌, Bool, true, false, cond, ◌&&◌, ℕ, ◌<◌, eqb}
 use Rattle.std.proofs.Math.Path.{refl}
 use mathlib.Core.List.{List, [], ◌∷◌}
 use Rattle.std.proofs.Math.Decide.{dec_lt, ℕ_discrete}
@@ -10,17 +10,15 @@ use Rattle.shape.specs.declared.Shape.{Shape}
 use Rattle.shape.specs.Blocks.{level_for}
 use Rattle.shape.specs.Time.{wait}
 use Rattle.rules.specs.declared.Call.{Call}
-use Rattle.rules.specs.declared.Room.{Room}
-use Rattle.rules.specs.declared.Room.TheVariants.{At, Nowhere}
 use Rattle.rules.specs.declared.Refusal.{Refusal}
 use Rattle.rules.specs.declared.Refusal.TheVariants.{ShapeNotAllowed, WrongLength, NotValid, NoThread, NotRunning, NoRoom, TimedOut}
-use Rattle.rules.specs.declared.Answer.TheVariants.{Refused, Built}
+use Rattle.rules.specs.declared.Answer.TheVariants.{Built}
 use Rattle.rules.specs.declared.Answer.TheVariants as answers
 use Rattle.rules.specs.Numbers.{CLOSED, ASKED, FOUND, DIVIDING, RELEASING, NEVER, TIMED, CLOCK-END}
 use Rattle.rules.specs.Answers.{refusal_number}
 use Rattle.rules.specs.Tables.{State, free_list, call_of, fresh}
-use Rattle.rules.specs.Steps.{Outcome, outcome, only_call, closed, deepest, no_room, look_at, look, take_from, take_step, divide_step, merges, release_step, go_on_step}
-use Rattle.rules.specs.declared.Verdict.{Verdict}
+use Rattle.rules.specs.Steps.{Outcome, outcome, only_call, closed, deepest, no_room, look_at, look, take_from, take_step, divide_step, release_step, go_on_step}
+use Rattle.rules.specs.Refusals.{Verdict}
 use Rattle.rules.specs.Refusals.{through, checked, refused, refuse, by_running, running, held_by, failing}
 use Rattle.rules.specs.Calls.{build, is_outside, ask_step, ask, go_on, give_step, give, switch_step, switch, tick_step, tick}
 use Rattle.facts.specs.Verdict.{by-fitting, by-verdict}
@@ -46,23 +44,23 @@ module _ (P : Outcome → Type 0) (s : Shape) (T : State) (t : ℕ) (c : Call) (
   unfolding look look_at no_room
   looks a = go (ℕ_discrete c.wait TIMED) (dec_lt c.deadline T.threads.device.clock) (dec_lt T.threads.device.clock c.deadline)
     where
-      late : P (outcome (Refused TimedOut) (only_call T t closed))
+      late : P (outcome (Err TimedOut) (only_call T t closed))
       late = g.ends TimedOut refl a
 
       late-or : P (look_at s T t c (deepest T.pool.lists (level_for s c.size))) → P (look s T t c)
       late-or p = let q = late in search either_way
 
       due :
-          (r : Room) → deepest T.pool.lists (level_for s c.size) ≡ r → c.wait ≡ TIMED → c.deadline ≡ T.threads.device.clock →
+          (r : Option ℕ) → deepest T.pool.lists (level_for s c.size) ≡ r → c.wait ≡ TIMED → c.deadline ≡ T.threads.device.clock →
           P (look_at s T t c r)
-      due (At l) q w d = g.finds l a q
-      due Nowhere q w d = rw (ne_eqb c.wait NEVER (omega arith), eq-eqb c.wait TIMED w, eq-eqb _ _ d) late
+      due (Some l) q w d = g.finds l a q
+      due None q w d = rw (ne_eqb c.wait NEVER (omega arith), eq-eqb c.wait TIMED w, eq-eqb _ _ d) late
 
       other :
-          (r : Room) → deepest T.pool.lists (level_for s c.size) ≡ r → (c.wait ≡ TIMED → T.threads.device.clock < c.deadline) →
+          (r : Option ℕ) → deepest T.pool.lists (level_for s c.size) ≡ r → (c.wait ≡ TIMED → T.threads.device.clock < c.deadline) →
           P (look_at s T t c r)
-      other (At l) q k = g.finds l a q
-      other Nowhere q k =
+      other (Some l) q k = g.finds l a q
+      other None q k =
           on-either (eqb c.wait NEVER) _ _ (λ _. g.ends NoRoom refl a) (λ n.
           either_way (eqb c.wait TIMED && eqb c.deadline T.threads.device.clock) _ _ late (g.blocks a (eqb-false _ _ n) k))
 
@@ -132,14 +130,14 @@ module _ (P : Step → Outcome → Type 0) (s : Shape) (T : State) (e : EachStep
 
 module _ (P : Step → Outcome → Type 0) (s : Shape) (T : State) (e : EachStep P s T) where
   -- the question changes nothing
-  answers-whole : (w : Bool) → P Whole (outcome (cond w answers.Whole answers.NotWhole) T)
+  answers-whole : (w : Bool) → P Whole (outcome (cond w (Ok answers.Whole) (Ok answers.NotWhole)) T)
   answers-whole true = e.whole
   answers-whole false = e.not-whole
 
   pub each_step : (x : Step) → P x (step_on s T x)
   unfolding listed_for step_on build ask ask_step go_on running give give_step held_by switch switch_step tick tick_step whole
   each_step Build =
-      by-fitting (λ v. P Build (through (refused T) v (outcome Built (fresh s))))
+      by-fitting (λ v. P Build (through (refused T) v (outcome (Ok Built) (fresh s))))
       (λ n. e.stays Build ShapeNotAllowed refl (λ g. absurd (n g)))
       (λ n. e.stays Build WrongLength refl (λ g. absurd (n g)))
       (λ a _. e.builds a)
@@ -168,7 +166,7 @@ module _ (P : Step → Outcome → Type 0) (s : Shape) (T : State) (e : EachStep
       past-checked P s T e Tick _ refl refl refl (λ v.
       past P s T e Tick (eqb T.threads.device.clock CLOCK-END) _ _ refl (omega arith) (λ _. e.ticks v))
   each_step Whole =
-      by-verdict (λ v. P Whole (outcome (through Refused v (cond (is_whole s T) answers.Whole answers.NotWhole)) T))
+      by-verdict (λ v. P Whole (outcome (through Err v (cond (is_whole s T) (Ok answers.Whole) (Ok answers.NotWhole))) T))
       (λ n. e.stays Whole ShapeNotAllowed refl (λ g. absurd (n g)))
       (λ n. e.stays Whole WrongLength refl (λ g. absurd (n g)))
       (λ n. e.stays Whole NotValid refl (λ g. absurd (n g)))

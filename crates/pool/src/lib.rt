@@ -1,4 +1,5 @@
-// The pool's public calls: each takes any numbers and any tables, and makes its step or gives the listed refusal.
+// The pool's public calls: each takes any numbers and any tables, and makes its step or gives the listed refusal. The tables stand one by
+// one: a struct would lend all of them by `&mut`, and which a call can alter would no longer stand in its signature.
 #![tactic(auto)]
 
 ghost use Rattle.std.specs.Prelude.{◌≡◌};
@@ -7,7 +8,7 @@ ghost use Rattle.rules.specs.Steps.{outcome};
 ghost use Rattle.rules.specs.Calls.{build, ask, go_on, give, switch, tick};
 ghost use Rattle.rules.specs.Questions.{whole, cover, map_outcome, map_pool};
 
-use rules::{Answer, Covered, Device, Mapped};
+use rules::{Answer, Covered, Device, Refusal};
 use shape::Shape;
 use shape::time::Millis;
 
@@ -20,12 +21,16 @@ pub fn build(
     lists: &mut [u16],
     calls: &mut [u64],
     queue: &mut [u8],
-) -> Answer
+) -> Result<Answer, Refusal>
     ensures { outcome result (state states.new owners.new lists.new calls.new queue.new d.new) ≡ build s (state states.old owners.old lists.old calls.old queue.old d.old) }
 {
-    let r = pool_checked::build(*d, s, states, owners, lists, calls, queue);
-    *d = r.device;
-    r.answer
+    check_tables::fitting(s, states, owners, lists, calls, queue)?;
+    tables_fresh::make_fresh(s, states, owners, lists, calls, queue);
+    *d = Device {
+        clock: 0,
+        running: 0,
+    };
+    Ok(Answer::Built)
 }
 
 // Ask: thread t asks for a block of at least this size, and says how long it would wait.
@@ -40,10 +45,11 @@ pub fn ask(
     t: usize,
     size: usize,
     wait: Millis,
-) -> Answer
+) -> Result<Answer, Refusal>
     ensures { outcome result (state states.now owners.now lists.now calls.new queue.now d) ≡ ask s (state states.now owners.now lists.now calls.old queue.now d) t size wait }
 {
-    pool_checked::ask(d, s, states, owners, lists, calls, queue, t, size, wait)
+    check_tables::checked(s, states, owners, lists, calls, queue, d)?;
+    pool_sound::ask(d, s, calls, t, size, wait)
 }
 
 // Go on: thread t's call makes its next step.
@@ -56,12 +62,11 @@ pub fn go_on(
     calls: &mut [u64],
     queue: &mut [u8],
     t: usize,
-) -> Answer
+) -> Result<Answer, Refusal>
     ensures { outcome result (state states.new owners.new lists.new calls.new queue.new d.new) ≡ go_on s (state states.old owners.old lists.old calls.old queue.old d.old) t }
 {
-    let r = pool_checked::go_on(*d, s, states, owners, lists, calls, queue, t);
-    *d = r.device;
-    r.answer
+    check_tables::checked(s, states, owners, lists, calls, queue, *d)?;
+    pool_sound::go_on(d, s, states, owners, lists, calls, queue, t)
 }
 
 // Give back: thread t gives back the block with this id.
@@ -75,10 +80,11 @@ pub fn give_back(
     queue: &[u8],
     t: usize,
     id: usize,
-) -> Answer
+) -> Result<Answer, Refusal>
     ensures { outcome result (state states.new owners.new lists.now calls.new queue.now d) ≡ give s (state states.old owners.old lists.now calls.old queue.now d) t id }
 {
-    pool_checked::give_back(d, s, states, owners, lists, calls, queue, t, id)
+    check_tables::checked(s, states, owners, lists, calls, queue, d)?;
+    pool_sound::give_back(d, s, states, owners, calls, t, id)
 }
 
 // Switch: thread t runs.
@@ -91,12 +97,11 @@ pub fn switch(
     calls: &[u64],
     queue: &[u8],
     t: usize,
-) -> Answer
+) -> Result<Answer, Refusal>
     ensures { outcome result (state states.now owners.now lists.now calls.now queue.now d.new) ≡ switch s (state states.now owners.now lists.now calls.now queue.now d.old) t }
 {
-    let r = pool_checked::switch(*d, s, states, owners, lists, calls, queue, t);
-    *d = r.device;
-    r.answer
+    check_tables::checked(s, states, owners, lists, calls, queue, *d)?;
+    pool_sound::switch(d, s, calls, t)
 }
 
 // Tick: the clock rises, and who waited until now is ready.
@@ -108,12 +113,11 @@ pub fn tick(
     lists: &[u16],
     calls: &mut [u64],
     queue: &mut [u8],
-) -> Answer
+) -> Result<Answer, Refusal>
     ensures { outcome result (state states.now owners.now lists.now calls.new queue.new d.new) ≡ tick s (state states.now owners.now lists.now calls.old queue.old d.old) }
 {
-    let r = pool_checked::tick(*d, s, states, owners, lists, calls, queue);
-    *d = r.device;
-    r.answer
+    check_tables::checked(s, states, owners, lists, calls, queue, *d)?;
+    pool_sound::tick(d, s, calls, queue)
 }
 
 // Whole: whether every byte has come home and no call is open.
@@ -125,10 +129,11 @@ pub fn whole(
     lists: &[u16],
     calls: &[u64],
     queue: &[u8],
-) -> Answer
+) -> Result<Answer, Refusal>
     ensures { result ≡ whole s (state states.now owners.now lists.now calls.now queue.now d) }
 {
-    pool_checked::whole(d, s, states, owners, lists, calls, queue)
+    check_tables::checked(s, states, owners, lists, calls, queue, d)?;
+    Ok(pool_sound::whole(s, states, calls))
 }
 
 // Cover: the undivided block over a byte offset, with its state.
@@ -141,13 +146,14 @@ pub fn cover(
     calls: &[u64],
     queue: &[u8],
     offset: usize,
-) -> Covered
+) -> Result<Covered, Refusal>
     ensures { result ≡ cover s (state states.now owners.now lists.now calls.now queue.now d) offset }
 {
-    pool_checked::cover(d, s, states, owners, lists, calls, queue, offset)
+    check_tables::checked(s, states, owners, lists, calls, queue, d)?;
+    questions::cover::cover_at(s, states, offset)
 }
 
-// Map: the ids of all undivided blocks by address into the row.
+// Map: the ids of all undivided blocks by address into the row; answers how many they are.
 pub fn map(
     d: Device,
     s: Shape,
@@ -157,8 +163,9 @@ pub fn map(
     calls: &[u64],
     queue: &[u8],
     row: &mut [u32],
-) -> Mapped
+) -> Result<usize, Refusal>
     ensures { map_outcome result row.new ≡ map_pool s (state states.now owners.now lists.now calls.now queue.now d) row.old }
 {
-    pool_checked::map(d, s, states, owners, lists, calls, queue, row)
+    check_tables::checked(s, states, owners, lists, calls, queue, d)?;
+    questions::map::map_row(s, states, row)
 }

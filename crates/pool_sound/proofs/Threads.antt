@@ -1,5 +1,6 @@
 -- Whether a thread may step, one law for each verdict; and what a step needs of the tables where it may.
 -- Assumes nothing.
+use Rattle.std.specs.Prelude.{Ok, Err}
 use mathlib.Core.Path.{◌≡◌, refl, sym, ◌∙◌, ap}
 use mathlib.Core.List.{List}
 use Prim.Native.Nat.{ℕ, ◌+◌, ◌≤◌, ◌<◌}
@@ -10,8 +11,7 @@ use Rattle.shape.specs.Laws.{limits}
 use Rattle.rules.specs.declared.Device.{Device}
 use Rattle.rules.specs.declared.Call.{Call}
 use Rattle.rules.specs.declared.Refusal.TheVariants.{NoThread, NotRunning}
-use Rattle.rules.specs.declared.Verdict.{Verdict}
-use Rattle.rules.specs.declared.Verdict.TheVariants.{Passed, Failed}
+use Rattle.rules.specs.Refusals.{Verdict}
 use Rattle.rules.specs.Numbers.{CLOSED}
 use Rattle.rules.specs.Tables.{state, call_of}
 use Rattle.rules.specs.Refusals.{running}
@@ -23,18 +23,18 @@ use Rattle.step_go_on.specs.GoesOn.{GoesOn}
 use Rattle.pool_sound.specs.Sound.{right-lengths}
 
 module _ (s : Shape) (d : Device) (t : ℕ) where
-  pub no-thread : s.threads ≤ t → Failed NoThread ≡ running s d t
+  pub no-thread : s.threads ≤ t → Err NoThread ≡ running s d t
   unfolding running
   no-thread h = rw (le-ltb t s.threads h)
 
-  pub not-running : t < s.threads → (d.running ≡ t + 1 → ⊥) → Failed NotRunning ≡ running s d t
+  pub not-running : t < s.threads → (d.running ≡ t + 1 → ⊥) → Err NotRunning ≡ running s d t
   unfolding running
   not-running h n = rw (lt-ltb t s.threads h, ne_eqb d.running (t + 1) n)
 
-  pub runs : t < s.threads → d.running ≡ t + 1 → Passed ≡ running s d t
+  pub runs : t < s.threads → d.running ≡ t + 1 → Ok tt ≡ running s d t
   runs h n = sym (running-passes s d t h n)
 
-module _ (s : Shape) (d : Device) (t : ℕ) {v : Verdict} (e : v ≡ running s d t) (f : v ≡ Passed) where
+module _ (s : Shape) (d : Device) (t : ℕ) {v : Verdict} (e : v ≡ running s d t) (f : v ≡ Ok tt) where
   mine : (t < s.threads) × (d.running ≡ t + 1)
   mine = running-passed s d t (sym e ∙ f)
 

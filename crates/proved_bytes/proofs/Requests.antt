@@ -1,6 +1,6 @@
 -- A smaller size finds room where a larger one does.
 -- Assumes nothing.
-use Rattle.std.specs.Prelude.{◌≡◌, true, ℕ, ◌-◌, ◌≤◌, ◌<◌}
+use Rattle.std.specs.Prelude.{◌≡◌, true, ℕ, ◌≤◌, ◌<◌}
 use Rattle.shape.specs.declared.Shape.{Shape}
 use Rattle.shape.specs.Limits.{allowed}
 use Rattle.shape.specs.Blocks.{bytes, level_for}

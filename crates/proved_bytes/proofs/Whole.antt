@@ -1,6 +1,6 @@
 -- Demand 2: the pool is called whole exactly when all its bytes are free and no thread has a call open.
 -- Assumes nothing.
-use Rattle.std.specs.Prelude.{◌≡◌, refl, false, Bool, cond, ◌↔◌, ℕ, ◌<◌}
+use Rattle.std.specs.Prelude.{Ok, Err, ◌≡◌, refl, false, Bool, cond, ◌↔◌, ℕ, ◌<◌}
 use Rattle.std.proofs.Common.{◌∙◌, arith}
 use Rattle.std.proofs.Math.Bool.{true}
 use Rattle.std.proofs.Math.Dec.{eqb}
@@ -12,8 +12,6 @@ use Rattle.shape.specs.Blocks.{size, bytes}
 use Rattle.shape.specs.Laws.{Limits, limits, count-top, size_top}
 use Rattle.rules.specs.Numbers.{FREE, CLOSED}
 use Rattle.rules.specs.declared.Refusal.{Refusal}
-use Rattle.rules.specs.declared.Answer.{Answer}
-use Rattle.rules.specs.declared.Answer.TheVariants.{Refused}
 use Rattle.rules.specs.declared.Answer.TheVariants as answers
 use Rattle.rules.specs.Refusals.{through}
 use Rattle.facts.specs.Lines.{Sound}
@@ -27,6 +25,7 @@ use Rattle.proved_bytes.proofs.Room.{all-free}
 use Rattle.proved_bytes.specs.Tables.{state_in, state-inside, state-known, sizes_of, tree_of}
 use Rattle.proved_bytes.specs.Bytes.{FreeByte, free-tree, tree_free}
 use Rattle.proved_bytes.specs.Whole.{Whole}
+use Rattle.rules.specs.Answers.{Answered}
 
 module _ (s : Shape) (T : State) (h : allowed s ≡ true) (v : valid s T ≡ true) where
   -- all bytes are free where every top block is FREE, and only there
@@ -68,18 +67,18 @@ module _ (s : Shape) (T : State) (h : allowed s ≡ true) (v : valid s T ≡ tru
       tests e = both _ _ e
 
 -- a refusal is no answer that all is whole, nor is the other answer
-refusal-apart : (r : Refusal) → Refused r ≡ answers.Whole → ⊥
+refusal-apart : (r : Refusal) → ◌≡◌ {A = Answered} (Err r) (Ok answers.Whole) → ⊥
 refusal-apart r e = let z : ◌≡◌ {A = ℕ} 0 1 = cc in omega arith
 
-answer-apart : answers.NotWhole ≡ answers.Whole → ⊥
+answer-apart : ◌≡◌ {A = Answered} (Ok answers.NotWhole) (Ok answers.Whole) → ⊥
 answer-apart e = let z : ◌≡◌ {A = ℕ} 0 1 = cc in omega arith
 
 -- demand 2, of the public call: for all shapes and tables the answer is that the pool is whole exactly if the tables are sound, all bytes
 -- are free and no thread has a call open
-pub whole-answer : (s : Shape) (T : State) → (whole s T ≡ answers.Whole) ↔ (Sound s T × Whole s T)
+pub whole-answer : (s : Shape) (T : State) → (whole s T ≡ Ok answers.Whole) ↔ (Sound s T × Whole s T)
 unfolding whole
 whole-answer s T = (
-  by-verdict (λ v. through Refused v (told (is_whole s T)) ≡ answers.Whole → Sound s T × Whole s T)
+  by-verdict (λ v. through Err v (told (is_whole s T)) ≡ Ok answers.Whole → Sound s T × Whole s T)
       (λ _ e. absurd (refusal-apart _ e))
       (λ _ e. absurd (refusal-apart _ e))
       (λ _ e. absurd (refusal-apart _ e))
@@ -87,15 +86,15 @@ whole-answer s T = (
   λ (g, w). rw (passes g, (whole-bytes s T g.shape g.valid).1 w),
 )
   where
-    told : Bool → Answer
-    told b = cond b answers.Whole answers.NotWhole
+    told : Bool → Answered
+    told b = cond b (Ok answers.Whole) (Ok answers.NotWhole)
 
-    said : (b : Bool) → told b ≡ answers.Whole → b ≡ true
+    said : (b : Bool) → told b ≡ Ok answers.Whole → b ≡ true
     said true e = refl
     said false e = absurd (answer-apart e)
 
 -- the accident, of the public call: with a call open at any stage the pool is never called whole, whatever the tables
 pub open-call-never-whole :
     (s : Shape) (T : State) (t : ℕ) → t < s.threads → ((call_of T.threads.calls t).stage ≡ CLOSED → ⊥) →
-    whole s T ≡ answers.Whole → ⊥
+    whole s T ≡ Ok answers.Whole → ⊥
 open-call-never-whole s T t h n e = n (((whole-answer s T).0 e).1.closed t h)

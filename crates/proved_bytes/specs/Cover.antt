@@ -1,6 +1,6 @@
 -- Cover answers the one undivided existing block over a byte.
 -- Assumes nothing.
-use Rattle.std.specs.Prelude.{◌≡◌, true, List, ℕ, ◌-◌, ◌/◌, ◌<◌}
+use Rattle.std.specs.Prelude.{◌≡◌, true, List, ℕ, ◌/◌, ◌<◌}
 use Rattle.shape.specs.declared.Shape.{Shape}
 use Rattle.shape.specs.Blocks.{size}
 use Rattle.rules.specs.Tables.{state_at}

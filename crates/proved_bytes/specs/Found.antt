@@ -1,6 +1,6 @@
 -- A look finds a level exactly where the target or a level above it has a FREE block.
 -- Assumes nothing.
-use Rattle.std.specs.Prelude.{◌≡◌, refl, Bool, true, false, cond, ◌⊎◌, ◌↔◌, List, ℕ, zero, suc, ◌+◌, ◌≤◌, ◌<◌, length, get_or, ltb}
+use Rattle.std.specs.Prelude.{Some, None, ◌≡◌, refl, Bool, true, false, cond, ◌⊎◌, ◌↔◌, List, ℕ, zero, suc, ◌+◌, ◌≤◌, ◌<◌, length, get_or, ltb}
 use Rattle.std.proofs.Math.Path.{sym}
 use Rattle.std.proofs.Common.{◌∙◌, inl, inr, eq-or-lt_of_le, le_of_suc-le-suc, arith}
 use Rattle.std.proofs.Math.Arith.{le-zero}
@@ -11,7 +11,6 @@ use Rattle.laws.specs.Lists.{times}
 use Rattle.laws.specs.Sums.{members-counted, tally-some}
 use Rattle.shape.specs.declared.Shape.{Shape}
 use Rattle.shape.specs.Blocks.{count}
-use Rattle.rules.specs.declared.Room.TheVariants.{At, Nowhere}
 use Rattle.rules.specs.Numbers.{FREE}
 use Rattle.rules.specs.Tables.{State, lengths, state_at, free_list}
 use Rattle.rules.specs.Valid.{free_listed, valid}
@@ -36,11 +35,11 @@ tally-any (suc n) f h = pick (f n) refl h (tally-any n f)
         (k, omega arith, g)
 
 -- a level that is found lies at the target or above, and its list has members
-pub deepest-some : (lists : List ℕ) (k l : ℕ) → deepest lists k ≡ At l → (l ≤ k) × (0 < get_or lists l 0)
+pub deepest-some : (lists : List ℕ) (k l : ℕ) → deepest lists k ≡ Some l → (l ≤ k) × (0 < get_or lists l 0)
 unfolding deepest
 deepest-some lists zero l e = pick (ltb 0 (get_or lists 0 0)) refl e
   where
-    pick : (b : Bool) → ltb 0 (get_or lists 0 0) ≡ b → cond b (At 0) Nowhere ≡ At l → (l ≤ 0) × (0 < get_or lists l 0)
+    pick : (b : Bool) → ltb 0 (get_or lists 0 0) ≡ b → cond b (Some 0) None ≡ Some l → (l ≤ 0) × (0 < get_or lists l 0)
     pick true q e =
         let w : l ≡ 0 = cc in
         rw w (omega arith, ltb-true 0 (get_or lists 0 0) q)
@@ -48,8 +47,8 @@ deepest-some lists zero l e = pick (ltb 0 (get_or lists 0 0)) refl e
 deepest-some lists (suc k) l e = pick (ltb 0 (get_or lists (suc k) 0)) refl e (deepest-some lists k l)
   where
     pick :
-        (b : Bool) → ltb 0 (get_or lists (suc k) 0) ≡ b → cond b (At (suc k)) (deepest lists k) ≡ At l →
-        (deepest lists k ≡ At l → (l ≤ k) × (0 < get_or lists l 0)) → (l ≤ suc k) × (0 < get_or lists l 0)
+        (b : Bool) → ltb 0 (get_or lists (suc k) 0) ≡ b → cond b (Some (suc k)) (deepest lists k) ≡ Some l →
+        (deepest lists k ≡ Some l → (l ≤ k) × (0 < get_or lists l 0)) → (l ≤ suc k) × (0 < get_or lists l 0)
     pick true q e up =
         let w : l ≡ suc k = cc in
         rw w (omega arith, ltb-true 0 (get_or lists (suc k) 0) q)
@@ -59,7 +58,7 @@ deepest-some lists (suc k) l e = pick (ltb 0 (get_or lists (suc k) 0)) refl e (d
 
 -- and where a list at the target or above has members, a level is found
 some-deepest :
-    (lists : List ℕ) (k l : ℕ) → l ≤ k → 0 < get_or lists l 0 → (m : ℕ) × (deepest lists k ≡ At m)
+    (lists : List ℕ) (k l : ℕ) → l ≤ k → 0 < get_or lists l 0 → (m : ℕ) × (deepest lists k ≡ Some m)
 unfolding deepest
 some-deepest lists zero l h q = (0, rw (lt-ltb 0 (get_or lists 0 0) (rw (le-zero h) at q)))
 some-deepest lists (suc k) l h q =
@@ -67,8 +66,8 @@ some-deepest lists (suc k) l h q =
   where
     pick :
         (b : Bool) → ltb 0 (get_or lists (suc k) 0) ≡ b → (l ≡ suc k) ⊎ (l < suc k) →
-        (l ≤ k → (m : ℕ) × (deepest lists k ≡ At m)) →
-        (m : ℕ) × (cond b (At (suc k)) (deepest lists k) ≡ At m)
+        (l ≤ k → (m : ℕ) × (deepest lists k ≡ Some m)) →
+        (m : ℕ) × (cond b (Some (suc k)) (deepest lists k) ≡ Some m)
     pick true e w up = (suc k, refl)
     pick false e (inl w) up = absurd (omega (arith, ltb-false 0 (get_or lists (suc k) 0) e, rw w at q))
     pick false e (inr w) up = up (le_of_suc-le-suc w)
@@ -95,7 +94,7 @@ module _ (s : Shape) (T : State) (n : lengths s T ≡ true) (v : valid s T ≡ t
 
   -- a look at level k finds a level exactly where that level or one above it has a FREE block
   pub found-room :
-      (k : ℕ) → k < s.levels → ((l : ℕ) × (deepest T.pool.lists k ≡ At l)) ↔ FreeBlock s T.pool.states k
+      (k : ℕ) → k < s.levels → ((l : ℕ) × (deepest T.pool.lists k ≡ Some l)) ↔ FreeBlock s T.pool.states k
   found-room k h = (λ (l, e). block l (deepest-some T.pool.lists k l e), λ (l, b, w, i, e). list l b w i e)
     where
       block : (l : ℕ) → (l ≤ k) × (0 < get_or T.pool.lists l 0) → FreeBlock s T.pool.states k
@@ -104,7 +103,7 @@ module _ (s : Shape) (T : State) (n : lengths s T ≡ true) (v : valid s T ≡ t
           (l, b, w, i, eqb-true _ _ e)
 
       list :
-          (l b : ℕ) → l ≤ k → b < count s l → state_at s T.pool.states l b ≡ FREE → (m : ℕ) × (deepest T.pool.lists k ≡ At m)
+          (l b : ℕ) → l ≤ k → b < count s l → state_at s T.pool.states l b ≡ FREE → (m : ℕ) × (deepest T.pool.lists k ≡ Some m)
       list l b w i e =
           some-deepest T.pool.lists k l w
           (rw (listed l (omega arith))

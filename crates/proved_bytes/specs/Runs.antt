@@ -1,7 +1,7 @@
 -- Runs of free bytes, for any number of parts, levels and top blocks: a run as long as the blocks of a level, and at a multiple of that length,
 -- is free where a FREE block of that level or of one above lies over it, and only there.
 -- Assumes nothing.
-use Rattle.std.specs.Prelude.{◌≡◌, ◌⊎◌, ◌≢◌, ℕ, suc, ◌*◌, ◌-◌, ◌/◌, ◌≤◌, ◌<◌}
+use Rattle.std.specs.Prelude.{◌≡◌, ◌⊎◌, ◌≢◌, ℕ, suc, ◌*◌, ◌/◌, ◌≤◌, ◌<◌}
 use Rattle.std.proofs.Common.{sym, ◌∙◌, ap, inl, inr, div-lt_iff_lt-mul, eq-or-lt_of_le, arith}
 use Rattle.rules.specs.Numbers.{FREE, NOEXIST}
 use Rattle.proved_bytes.specs.Tree.{Tree, Sizes, differ, together, divided-above}

@@ -1,13 +1,11 @@
 -- What ends a listing: a bad record, refusal 1, and the script's end; behind every other record the run goes on.
 -- Assumes nothing.
-use Rattle.std.specs.Prelude.{◌≡◌, List, [], ◌++◌, ℕ, suc, ◌+◌, ◌<◌, ◌≤◌, length}
+use Rattle.std.specs.Prelude.{Err, Some, None, ◌≡◌, List, [], ◌++◌, ℕ, suc, ◌+◌, ◌<◌, ◌≤◌, length}
 use Rattle.std.proofs.Common.{append-nil}
 use borrow.Author.Tests.{le-leb, lt-leb, eq-eqb, ne_eqb}
 use Rattle.shape.specs.declared.Shape.{Shape}
 use Rattle.rules.specs.declared.Refusal.TheVariants.{BadRecord}
-use Rattle.rules.specs.declared.Answer.TheVariants.{Refused}
 use Rattle.rules.specs.declared.script.Record.{Record}
-use Rattle.rules.specs.declared.script.Read.{Read}
 use Rattle.rules.specs.Answers.{number}
 use Rattle.rules.specs.Tables.{State}
 use Rattle.rules.specs.Script.{tag_at, read_at}
@@ -21,11 +19,11 @@ module _ (most : ℕ) (xs : List ℕ) (n at : ℕ) (s : Shape) (T : State) where
 
   module _ (inside : at < length xs) where
     -- a bad record's line is the last
-    pub ends-bad : read_at xs at ≡ Read.Bad → lines (suc most) xs n at s T ≡ line n (tag_at xs at) (Refused (BadRecord at))
+    pub ends-bad : read_at xs at ≡ None → lines (suc most) xs n at s T ≡ line n (tag_at xs at) (Err (BadRecord at))
     unfolding lines read_lines
     ends-bad e = rw (lt-leb (length xs) at inside, e)
 
-    module _ (r : Record) (next : ℕ) (e : read_at xs at ≡ Read.Record r next) where
+    module _ (r : Record) (next : ℕ) (e : read_at xs at ≡ Some (r, next)) where
       -- so is the line of a record that is refused with 1
       pub ends-refused :
           number (record_step s T r).answer ≡ 1 →

@@ -1,12 +1,11 @@
 -- The public map: on sound tables it answers the number of undivided existing blocks and writes their ids by address, or refuses a row that
 -- is too short. Different blocks have different ids.
 -- Assumes nothing.
-use Rattle.std.specs.Prelude.{◌≡◌, refl, List, [], ◌∷◌, map, ℕ, suc, ◌<◌, ◌≤◌, length}
+use Rattle.std.specs.Prelude.{Err, ◌≡◌, refl, List, [], ◌∷◌, map, ℕ, suc, ◌<◌, ◌≤◌, length}
 use Rattle.std.proofs.Common.{ap}
 use borrow.Author.Tests.{lt-ltb, le-ltb}
 use Rattle.shape.specs.declared.Shape.{Shape}
 use Rattle.rules.specs.declared.Refusal.TheVariants.{RowTooShort}
-use Rattle.rules.specs.declared.Mapped.{Mapped}
 use Rattle.rules.specs.Tables.{State}
 use Rattle.rules.specs.Questions.{map_outcome, map_row, map_pool}
 use Rattle.facts.specs.Lines.{Sound}
@@ -41,7 +40,7 @@ module _ (s : Shape) (T : State) (row : List ℕ) (g : Sound s T) where
 
   -- a row that is too short is left as it was
   pub map-refuses :
-      length row < length (map_pairs s T.pool.states) → map_pool s T row ≡ map_outcome (Mapped.Refused RowTooShort) row
+      length row < length (map_pairs s T.pool.states) → map_pool s T row ≡ map_outcome (Err RowTooShort) row
   unfolding map_pool map_row
   map-refuses h =
       rw (

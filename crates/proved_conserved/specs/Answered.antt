@@ -1,13 +1,12 @@
 -- The public map: on sound tables it answers the number of undivided existing blocks and writes their ids by address, or refuses a row that
 -- is too short. Different blocks have different ids.
 -- Assumes nothing.
-use Rattle.std.specs.Prelude.{◌≡◌, List, map, ℕ, ◌<◌, length}
+use Rattle.std.specs.Prelude.{Ok, ◌≡◌, List, map, ℕ, ◌<◌, length}
 use Rattle.std.proofs.Common.{sym, ◌∙◌, ap, arith}
 use Rattle.std.proofs.lemmas.List.Edits.{sets}
 use Rattle.shape.specs.declared.Shape.{Shape}
 use Rattle.shape.specs.Blocks.{bytes, id_block}
 use Rattle.shape.specs.Laws.{Limits}
-use Rattle.rules.specs.declared.Mapped.TheVariants.{Blocks}
 use Rattle.rules.specs.Tables.{State}
 use Rattle.rules.specs.Questions.{map_outcome, map_pool}
 use Rattle.proved_conserved.specs.Pairs.{id_of}
@@ -21,7 +20,7 @@ pub record MapAnswers (s : Shape) (T : State) (row : List ℕ) : Type 0 where
   pub follow : Follow s T.pool.states 0 blocks (bytes s)
   pub every : (l b : ℕ) → Standing s T.pool.states l b → Listed blocks l b
   pub once : (l b : ℕ) (before behind : List (ℕ × ℕ)) → Among blocks before l b behind → Listed behind l b → ⊥
-  pub answer : map_pool s T row ≡ map_outcome (Blocks (length blocks)) (sets row 0 (map (id_of s) blocks))
+  pub answer : map_pool s T row ≡ map_outcome (Ok (length blocks)) (sets row 0 (map (id_of s) blocks))
 
 -- an id names one block
 pub ids-differ :

@@ -1,6 +1,6 @@
 -- Map lists each undivided existing block once: a block's first byte lies in one that is listed, and only one such block lies over it.
 -- Assumes nothing.
-use Rattle.std.specs.Prelude.{List, ℕ, ◌-◌}
+use Rattle.std.specs.Prelude.{List, ℕ}
 use Rattle.proved_conserved.specs.Partition.{Among}
 
 -- a block of the list, and the blocks before it and behind it

@@ -1,6 +1,6 @@
 -- What a thread holds it holds over every history in which it does not give it back.
 -- Assumes nothing.
-use Rattle.std.specs.Prelude.{ℕ, ◌-◌, List, [], ◌∷◌}
+use Rattle.std.specs.Prelude.{ℕ, List, [], ◌∷◌}
 use Rattle.shape.specs.declared.Shape.{Shape}
 use Rattle.rules.specs.Tables.{State}
 use Rattle.facts.specs.Lines.{Sound}

@@ -1,7 +1,7 @@
 -- Document 01, 'Calls and steps': only a tick raises the clock, and only a switch and a look that blocks change who runs; build begins
 -- anew.
 -- Assumes nothing.
-use Rattle.std.specs.Prelude.{◌≡◌, refl, ◌⊎◌, ℕ, ◌+◌}
+use Rattle.std.specs.Prelude.{Ok, ◌≡◌, refl, ◌⊎◌, ℕ, ◌+◌}
 use Rattle.std.proofs.Common.{ap, inl, inr}
 use Rattle.shape.specs.declared.Shape.{Shape}
 use Rattle.rules.specs.declared.Call.{Call}
@@ -19,7 +19,7 @@ device clock running = record { clock = clock; running = running }
 
 -- a go on that blocks its thread: nobody runs
 abbrev Blocks : State → Step → Outcome → Type 0
-Blocks T x o = (t : ℕ) × (x ≡ GoOn t) × (o.answer ≡ Waiting) × (o.after.threads.device ≡ device T.threads.device.clock 0)
+Blocks T x o = (t : ℕ) × (x ≡ GoOn t) × (o.answer ≡ Ok Waiting) × (o.after.threads.device ≡ device T.threads.device.clock 0)
 
 -- what a step leaves of the record
 abbrev Record : State → Step → Outcome → Type 0
@@ -77,13 +77,13 @@ clock-stays s T x n m = go (steps-record s T x)
 pub running-stays :
     (s : Shape) (T : State) (x : Step) → ((t : ℕ) → x ≡ Switch t → ⊥) → (x ≡ Build → ⊥) →
     ((step_on s T x).after.threads.device.running ≡ T.threads.device.running)
-    ⊎ ((t : ℕ) × (x ≡ GoOn t) × ((step_on s T x).answer ≡ Waiting) × ((step_on s T x).after.threads.device.running ≡ 0))
+    ⊎ ((t : ℕ) × (x ≡ GoOn t) × ((step_on s T x).answer ≡ Ok Waiting) × ((step_on s T x).after.threads.device.running ≡ 0))
 running-stays s T x n m = go (steps-record s T x)
   where
     go :
         Record T x (step_on s T x) →
         ((step_on s T x).after.threads.device.running ≡ T.threads.device.running)
-        ⊎ ((t : ℕ) × (x ≡ GoOn t) × ((step_on s T x).answer ≡ Waiting) × ((step_on s T x).after.threads.device.running ≡ 0))
+        ⊎ ((t : ℕ) × (x ≡ GoOn t) × ((step_on s T x).answer ≡ Ok Waiting) × ((step_on s T x).after.threads.device.running ≡ 0))
     go (inl e) = inl (ap (λ (d : Device). d.running) e)
     go (inr (inl b)) = absurd (m b)
     go (inr (inr (inl (k, e)))) = inl (ap (λ (d : Device). d.running) e)

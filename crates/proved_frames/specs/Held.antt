@@ -1,7 +1,7 @@
 -- Integrity: no step of one thread changes the state or the owner of a block that another thread holds, and no two held blocks share a
 -- byte.
 -- Assumes nothing.
-use Rattle.std.specs.Prelude.{◌≡◌, true, not, ℕ, ◌+◌, ◌-◌, ◌/◌, ◌<◌, set, length, eqb, List, [], ◌∷◌}
+use Rattle.std.specs.Prelude.{Ok, ◌≡◌, true, not, ℕ, ◌+◌, ◌-◌, ◌/◌, ◌<◌, set, length, eqb, List, [], ◌∷◌}
 use Rattle.std.proofs.Math.Path.{refl, sym, ap}
 use Rattle.std.proofs.Common.{◌∙◌, ap₂, arith, eqb-true, ne_eqb}
 use Rattle.std.proofs.Math.Decide.{dec_lt}
@@ -122,15 +122,15 @@ KeepsBlock s u k (x ∷ xs) = (GivesBack s u k x → ⊥) × (x ≡ Build → �
 
 -- who is granted a block holds it
 record GrantHolds (s : Shape) (x : Step) (o : Outcome) : Type 0 where
-  held : (t i : ℕ) → x ≡ GoOn t → o.answer ≡ Granted i → Holds o.after t (place s (id_level i) (id_block i))
+  held : (t i : ℕ) → x ≡ GoOn t → o.answer ≡ Ok (Granted i) → Holds o.after t (place s (id_level i) (id_block i))
 
 module _ (s : Shape) (T : State) (v : Sound s T) where
-  other : {x : Step} {o : Outcome} → ((i : ℕ) → o.answer ≡ Granted i → ◌≡◌ {A = ℕ} 0 1) → GrantHolds s x o
+  other : {x : Step} {o : Outcome} → ((i : ℕ) → o.answer ≡ Ok (Granted i) → ◌≡◌ {A = ℕ} 0 1) → GrantHolds s x o
   other n = record { held = λ t i e q. absurd (omega (arith, n i q)) }
 
   granting :
       (t : ℕ) (c : Call) → Running s T t c → c.stage ≡ DIVIDING → (u i : ℕ) → GoOn t ≡ GoOn u →
-      (grant_step s T t c).answer ≡ Granted i → Holds (grant_step s T t c).after u (place s (id_level i) (id_block i))
+      (grant_step s T t c).answer ≡ Ok (Granted i) → Holds (grant_step s T t c).after u (place s (id_level i) (id_block i))
   unfolding grant_step
   granting t c g d u i e q =
       rw (level, block, same)
@@ -179,7 +179,7 @@ module _ (s : Shape) (T : State) (v : Sound s T) where
       }
 
   pub granted-holds :
-      (t i : ℕ) → (go_on s T t).answer ≡ Granted i → Holds (go_on s T t).after t (place s (id_level i) (id_block i))
+      (t i : ℕ) → (go_on s T t).answer ≡ Ok (Granted i) → Holds (go_on s T t).after t (place s (id_level i) (id_block i))
   unfolding step_on
   granted-holds t i e =
       (each_step (GrantHolds s) s T

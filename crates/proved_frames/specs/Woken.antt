@@ -1,7 +1,7 @@
 -- Who is woken: a settle and a tick answer how many left the queue, after a settle nobody waits, and who begins to wait joins the queue's end.
 -- Assumes nothing.
 use Rattle.std.proofs.Math.Path.{◌≡◌, refl}
-use Rattle.std.proofs.Common.{arith, length-append}
+use Rattle.std.proofs.Common.{Ok, arith, length-append}
 use Rattle.std.specs.Prelude.{Bool, true, false, not, cond, ℕ, ◌+◌, ◌≤◌, length}
 use mathlib.Core.List.{List, [], ◌∷◌, ◌++◌}
 use Rattle.laws.specs.Lists.{keep}
@@ -19,17 +19,18 @@ use Rattle.facts.specs.Running.{Running, ready}
 use Rattle.history.specs.History.{Step, GoOn, step_on}
 use Rattle.history.specs.Walk.{EachGoOn}
 use Rattle.history.proofs.Walk.{each_step}
+use Rattle.rules.specs.Answers.{Answered}
 
 -- what a step leaves of the queue, by its answer
 pub record Wakes (T : State) (x : Step) (o : Outcome) : Type 0 where
   pub settled :
-      (n : ℕ) → o.answer ≡ Settled n →
+      (n : ℕ) → o.answer ≡ Ok (Settled n) →
       (n ≡ length (queue_of T.threads.queue)) × (queue_of o.after.threads.queue ≡ [])
   pub ticked :
-      (n : ℕ) → o.answer ≡ Ticked n →
+      (n : ℕ) → o.answer ≡ Ok (Ticked n) →
       n + length (queue_of o.after.threads.queue) ≡ length (queue_of T.threads.queue)
   pub joined :
-      o.answer ≡ Waiting →
+      o.answer ≡ Ok Waiting →
       (t : ℕ) × (x ≡ GoOn t) × (queue_of o.after.threads.queue ≡ queue_of T.threads.queue ++ (t ∷ []))
 
 -- those that pass and those that fail are all
@@ -48,8 +49,8 @@ keep-split f (x ∷ xs) = go (f x) (keep-split f xs)
 
 -- a step that answers none of these
 other :
-    {T : State} {x : Step} {o : Outcome} → ((n : ℕ) → o.answer ≡ Settled n → ◌≡◌ {A = ℕ} 0 1) →
-    ((n : ℕ) → o.answer ≡ Ticked n → ◌≡◌ {A = ℕ} 0 1) → (o.answer ≡ Waiting → ◌≡◌ {A = ℕ} 0 1) → Wakes T x o
+    {T : State} {x : Step} {o : Outcome} → ((n : ℕ) → o.answer ≡ Ok (Settled n) → ◌≡◌ {A = ℕ} 0 1) →
+    ((n : ℕ) → o.answer ≡ Ok (Ticked n) → ◌≡◌ {A = ℕ} 0 1) → (o.answer ≡ Ok Waiting → ◌≡◌ {A = ℕ} 0 1) → Wakes T x o
 other a b c =
     record {
       settled = λ n e. absurd (omega (arith, a n e));
@@ -101,19 +102,19 @@ module _ (s : Shape) (T : State) (v : Sound s T) where
         merges = λ r e. other (λ n q. cc) (λ n q. cc) (λ q. cc);
       }
     where
-      clash : (n : ℕ) → Waiting ≡ Settled n → ◌≡◌ {A = ℕ} 0 1
+      clash : (n : ℕ) → ◌≡◌ {A = Answered} (Ok Waiting) (Ok (Settled n)) → ◌≡◌ {A = ℕ} 0 1
       clash n q = cc
 
-      clash' : (n : ℕ) → Waiting ≡ Ticked n → ◌≡◌ {A = ℕ} 0 1
+      clash' : (n : ℕ) → ◌≡◌ {A = Answered} (Ok Waiting) (Ok (Ticked n)) → ◌≡◌ {A = ℕ} 0 1
       clash' n q = cc
 
-      clash'' : {m : ℕ} (n : ℕ) → Settled m ≡ Ticked n → ◌≡◌ {A = ℕ} 0 1
+      clash'' : {m : ℕ} (n : ℕ) → ◌≡◌ {A = Answered} (Ok (Settled m)) (Ok (Ticked n)) → ◌≡◌ {A = ℕ} 0 1
       clash'' n q = cc
 
-      clash''' : {m : ℕ} → Settled m ≡ Waiting → ◌≡◌ {A = ℕ} 0 1
+      clash''' : {m : ℕ} → ◌≡◌ {A = Answered} (Ok (Settled m)) (Ok Waiting) → ◌≡◌ {A = ℕ} 0 1
       clash''' q = cc
 
-      settled-number : {m : ℕ} (n : ℕ) → Settled m ≡ Settled n → n ≡ m
+      settled-number : {m : ℕ} (n : ℕ) → ◌≡◌ {A = Answered} (Ok (Settled m)) (Ok (Settled n)) → n ≡ m
       settled-number n q = cc
 
   pub step-wakes : (x : Step) → Wakes T x (step_on s T x)
@@ -139,20 +140,20 @@ module _ (s : Shape) (T : State) (v : Sound s T) where
       passes : ℕ → Bool
       passes = due T.threads.calls (T.threads.device.clock + 1)
 
-      no-settle : {m : ℕ} (n : ℕ) → Ticked m ≡ Settled n → ◌≡◌ {A = ℕ} 0 1
+      no-settle : {m : ℕ} (n : ℕ) → ◌≡◌ {A = Answered} (Ok (Ticked m)) (Ok (Settled n)) → ◌≡◌ {A = ℕ} 0 1
       no-settle n q = cc
 
-      no-wait : {m : ℕ} → Ticked m ≡ Waiting → ◌≡◌ {A = ℕ} 0 1
+      no-wait : {m : ℕ} → ◌≡◌ {A = Answered} (Ok (Ticked m)) (Ok Waiting) → ◌≡◌ {A = ℕ} 0 1
       no-wait q = cc
 
-      number : {m : ℕ} (n : ℕ) → Ticked m ≡ Ticked n → n ≡ m
+      number : {m : ℕ} (n : ℕ) → ◌≡◌ {A = Answered} (Ok (Ticked m)) (Ok (Ticked n)) → n ≡ m
       number n q = cc
 
       short : length (keep (λ t. not (passes t)) (queue_of T.threads.queue)) ≤ s.threads
       short = omega (arith, keep-most (λ t. not (passes t)) (queue_of T.threads.queue), few)
 
       left :
-          (n : ℕ) → Ticked (length (keep passes (queue_of T.threads.queue))) ≡ Ticked n →
+          (n : ℕ) → ◌≡◌ {A = Answered} (Ok (Ticked (length (keep passes (queue_of T.threads.queue))))) (Ok (Ticked n)) →
           n
           + length (queue_of (put_queue s.threads (keep (λ t. not (passes t)) (queue_of T.threads.queue))))
           ≡ length (queue_of T.threads.queue)

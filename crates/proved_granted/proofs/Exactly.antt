@@ -1,16 +1,13 @@
 -- Demand 3: a request that may not wait ends within as many go-on steps as there are levels and two, and is granted exactly where a run of free
 -- bytes as long as the smallest block that fits starts at a multiple of that size. So more room never turns a yes into a no.
 -- Assumes nothing.
-use Rattle.std.specs.Prelude.{◌≡◌, refl, ◌⊎◌, ◌↔◌, ℕ, ◌≤◌, ◌<◌}
+use Rattle.std.specs.Prelude.{Err, Some, None, Option, ◌≡◌, refl, ◌⊎◌, ◌↔◌, ℕ, ◌≤◌, ◌<◌}
 use Rattle.std.proofs.Common.{ap, inl, inr, arith}
 use mathlib.Core.Logic.Iff
 use Rattle.shape.specs.declared.Shape.{Shape}
 use Rattle.shape.specs.Blocks.{bytes, level_for}
 use Rattle.shape.specs.Laws.{limits, level_for-inside}
-use Rattle.rules.specs.declared.Room.{Room}
-use Rattle.rules.specs.declared.Room.TheVariants.{At, Nowhere}
 use Rattle.rules.specs.declared.Refusal.TheVariants.{NoRoom}
-use Rattle.rules.specs.declared.Answer.TheVariants.{Refused}
 use Rattle.rules.specs.Tables.{State}
 use Rattle.rules.specs.Steps.{Outcome, outcome, deepest}
 use Rattle.proved_bytes.specs.Bytes.{FreeByte, FreeBlock}
@@ -27,12 +24,12 @@ module _ (s : Shape) (T : State) (t size : ℕ) (a : Asks s T t size) where
   inside : level_for s size < s.levels
   inside = level_for-inside s size (limits s a.runs.sound.shape).levels.0
 
-  block-found : ((l : ℕ) × (deepest T.pool.lists (level_for s size) ≡ At l)) ↔ FreeBlock s T.pool.states (level_for s size)
+  block-found : ((l : ℕ) × (deepest T.pool.lists (level_for s size) ≡ Some l)) ↔ FreeBlock s T.pool.states (level_for s size)
   block-found = found-room s T a.runs.sound.lengths a.runs.sound.valid (level_for s size) inside
 
   -- the request ends in one of two ways, by what its look finds
-  ends : (r : Room) → deepest T.pool.lists (level_for s size) ≡ r → Granting s T t size ⊎ Refusing s T t size
-  ends (At l) e =
+  ends : (r : Option ℕ) → deepest T.pool.lists (level_for s size) ≡ r → Granting s T t size ⊎ Refusing s T t size
+  ends (Some l) e =
       inl
       (record {
         room = block-found.0 (l, e);
@@ -42,11 +39,11 @@ module _ (s : Shape) (T : State) (t size : ℕ) (a : Asks s T t size) where
     where
       grant : Grant s t size (λ U b. Unit {0}) (request s T t size)
       grant = request-granted s T t size a l e (λ U l b. Unit {0}) (λ U l b g h p. tt) (λ b bs q. tt)
-  ends Nowhere e =
+  ends None e =
       let n = request-nowhere s T t size a e in
       inr (record { full = λ f. none (block-found.1 f); refused = n; ended = rw n a.is_closed })
     where
-      none : (l : ℕ) × (deepest T.pool.lists (level_for s size) ≡ At l) → ⊥
+      none : (l : ℕ) × (deepest T.pool.lists (level_for s size) ≡ Some l) → ⊥
       none (l, q) = let z : ◌≡◌ {A = ℕ} 0 1 = cc in omega arith
 
   -- the call ends within the number of levels plus two go-on steps
@@ -69,10 +66,10 @@ module _ (s : Shape) (T : State) (t size : ℕ) (a : Asks s T t size) where
   granted-exactly = Iff.trans granted-block (room-bytes s T a.runs.sound.shape a.runs.sound.valid (level_for s size) inside)
 
   -- else it ends with no room, and tables and record are as they were before it was asked
-  pub refused-else : (HasRun s T size → ⊥) → request s T t size ≡ outcome (Refused NoRoom) T
+  pub refused-else : (HasRun s T size → ⊥) → request s T t size ≡ outcome (Err NoRoom) T
   refused-else n = go (ends _ refl)
     where
-      go : Granting s T t size ⊎ Refusing s T t size → request s T t size ≡ outcome (Refused NoRoom) T
+      go : Granting s T t size ⊎ Refusing s T t size → request s T t size ≡ outcome (Err NoRoom) T
       go (inl x) = absurd (n (granted-exactly.0 x.granted))
       go (inr x) = x.refused
 

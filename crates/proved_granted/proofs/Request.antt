@@ -1,6 +1,6 @@
 -- A request that may not wait, from the ask to its end: it looks, and then ends without room, or takes a block and splits it until it is granted.
 -- Assumes nothing.
-use Rattle.std.specs.Prelude.{◌≡◌, List, ◌∷◌, get_or}
+use Rattle.std.specs.Prelude.{Ok, Err, Some, None, ◌≡◌, List, ◌∷◌, get_or}
 use Rattle.std.proofs.Common.{sym, ◌∙◌, ap, add-one}
 use Prim.Native.Nat.{ℕ, suc, ◌+◌, ◌*◌, ◌≤◌, ◌<◌}
 use native.Mathlib.Omega.{arith}
@@ -9,9 +9,8 @@ use Rattle.shape.specs.Limits.{parts}
 use Rattle.shape.specs.Blocks.{level_for}
 use Rattle.shape.specs.Laws.{limits, level_for-inside}
 use Rattle.rules.specs.declared.Call.{Call}
-use Rattle.rules.specs.declared.Room.TheVariants.{At, Nowhere}
 use Rattle.rules.specs.declared.Refusal.TheVariants.{NoRoom}
-use Rattle.rules.specs.declared.Answer.TheVariants.{Refused, Opened, Found}
+use Rattle.rules.specs.declared.Answer.TheVariants.{Opened, Found}
 use Rattle.rules.specs.Numbers.{CLOSED}
 use Rattle.rules.specs.Tables.{State, free_list, call_of}
 use Rattle.rules.specs.Steps.{Outcome, outcome, deepest, take_from, split_step}
@@ -41,16 +40,16 @@ module _ (s : Shape) (T : State) (t size : ℕ) (a : Asks s T t size) where
   request-looks =
       let e : s.levels + 2 ≡ suc (s.levels + 1) = omega arith in
       rw (e, ask-running s T t (call_of T.threads.calls t) a.runs a.is_closed size a.fits)
-      (goes_on s t (s.levels + 1) (outcome Opened (asked T t size)) (asking size) asked-runs (λ e. omega arith))
+      (goes_on s t (s.levels + 1) (outcome (Ok Opened) (asked T t size)) (asking size) asked-runs (λ e. omega arith))
 
   -- no room at any level: it ends there, and nothing has changed
-  pub request-nowhere : deepest T.pool.lists (level_for s size) ≡ Nowhere → request s T t size ≡ outcome (Refused NoRoom) T
+  pub request-nowhere : deepest T.pool.lists (level_for s size) ≡ None → request s T t size ≡ outcome (Err NoRoom) T
   request-nowhere e =
       request-looks
       ∙ rw (looks-nowhere s (asked T t size) t size asked-runs e, closed-again s T t size a)
-      (until-ended s t (s.levels + 1) (outcome (Refused NoRoom) T) a.is_closed)
+      (until-ended s t (s.levels + 1) (outcome (Err NoRoom) T) a.is_closed)
 
-  module _ (l : ℕ) (e : deepest T.pool.lists (level_for s size) ≡ At l) where
+  module _ (l : ℕ) (e : deepest T.pool.lists (level_for s size) ≡ Some l) where
     found-runs : Running s (found T t size l) t (finding size l)
     found-runs = at-runs s (asked T t size) t size asked-runs l e
 
@@ -59,7 +58,7 @@ module _ (s : Shape) (T : State) (t size : ℕ) (a : Asks s T t size) where
     request-takes =
         request-looks
         ∙ rw (looks-at s (asked T t size) t size asked-runs l e, add-one s.levels)
-        (goes_on s t s.levels (outcome (Found l) (found T t size l)) (finding size l) found-runs (λ e. omega arith))
+        (goes_on s t s.levels (outcome (Ok (Found l)) (found T t size l)) (finding size l) found-runs (λ e. omega arith))
 
     -- each one after that goes one level deeper, up to the grant; what holds of the block taken, and of the first part after each split, holds then
     pub request-granted :

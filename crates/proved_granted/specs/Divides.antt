@@ -1,6 +1,6 @@
 -- A thread with a block in hand goes on: it splits until the block is of the level for its size, and is granted that block.
 -- Assumes nothing.
-use Rattle.std.specs.Prelude.{◌≡◌, ℕ, ◌+◌, ◌*◌, ◌≤◌, ◌<◌}
+use Rattle.std.specs.Prelude.{Ok, ◌≡◌, ℕ, ◌+◌, ◌*◌, ◌≤◌, ◌<◌}
 use Rattle.std.proofs.Math.Path.{refl, ap}
 use Rattle.std.proofs.Common.{arith}
 use Rattle.shape.specs.declared.Shape.{Shape}
@@ -55,7 +55,7 @@ module _ (s : Shape) (t size : ℕ) (P : State → ℕ → ℕ → Type 0)
 
 -- such a call has ended, with the answer granted
 module _ (s : Shape) (t size : ℕ) (P : State → ℕ → Type 0) (o : Outcome) (r : Grant s t size P o) where
-  pub grant-answer : o.answer ≡ Granted (id s (level_for s size) r.block)
+  pub grant-answer : o.answer ≡ Ok (Granted (id s (level_for s size) r.block))
   unfolding grant_step
   grant-answer = ap (λ (o : Outcome). o.answer) r.is
 

@@ -1,6 +1,6 @@
 -- A thread that runs on sound tables opens a request that may not wait, and goes on: it runs on sound tables still.
 -- Assumes nothing.
-use Rattle.std.specs.Prelude.{◌≡◌, ℕ, ◌≤◌, pos}
+use Rattle.std.specs.Prelude.{Ok, ◌≡◌, ℕ, ◌≤◌, pos}
 use Rattle.std.proofs.Math.Path.{refl}
 use Rattle.std.proofs.Common.{◌∙◌, ap}
 use borrow.Author.Tests.{le-ltb}
@@ -29,7 +29,7 @@ ask_now s T t size = ask s T t size (record { 0 = pos 0 })
 
 module _ (s : Shape) (T : State) (t : ℕ) (c : Call) (g : Running s T t c) where
   -- the thread with no call open opens one
-  pub ask-running : c.stage ≡ CLOSED → (size : ℕ) → size ≤ s.top_size → ask_now s T t size ≡ outcome Opened (only_call T t (asking size))
+  pub ask-running : c.stage ≡ CLOSED → (size : ℕ) → size ≤ s.top_size → ask_now s T t size ≡ outcome (Ok Opened) (only_call T t (asking size))
   unfolding ask ask_step asked_call wait
   ask-running e size h =
       rw (passes g.sound, running-passes s T.threads.device t g.thread g.running, g.own, e, le-ltb s.top_size size h)

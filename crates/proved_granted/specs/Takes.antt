@@ -1,15 +1,14 @@
 -- A request that may not wait looks once: where there is room it finds a level and takes a block there, else it ends with no room.
 -- Assumes nothing.
-use Rattle.std.specs.Prelude.{◌≡◌, List, [], ◌∷◌, ℕ, ◌≤◌, ◌<◌, length, get_or}
+use Rattle.std.specs.Prelude.{Ok, Err, Some, None, ◌≡◌, List, [], ◌∷◌, ℕ, ◌≤◌, ◌<◌, length, get_or}
 use Rattle.std.proofs.Math.Path.{refl, ap}
 use Rattle.std.proofs.Common.{sym, ◌∙◌, arith}
 use Rattle.shape.specs.declared.Shape.{Shape}
 use Rattle.shape.specs.Blocks.{level_for}
 use Rattle.shape.specs.Laws.{limits, level_for-inside}
 use Rattle.rules.specs.declared.Call.{Call}
-use Rattle.rules.specs.declared.Room.TheVariants.{At, Nowhere}
 use Rattle.rules.specs.declared.Refusal.TheVariants.{NoRoom}
-use Rattle.rules.specs.declared.Answer.TheVariants.{Refused, Found}
+use Rattle.rules.specs.declared.Answer.TheVariants.{Found}
 use Rattle.rules.specs.Numbers.{NEVER, FOUND}
 use Rattle.rules.specs.Tables.{State, free_list}
 use Rattle.facts.specs.Lines.{valid-facts}
@@ -33,16 +32,16 @@ module _ (s : Shape) (T : State) (t size : ℕ) (g : Running s T t (asking size)
 
   -- with room at no level the call ends, and nothing else changes
   pub looks-nowhere :
-      deepest T.pool.lists (level_for s size) ≡ Nowhere → go_on s T t ≡ outcome (Refused NoRoom) (only_call T t closed)
+      deepest T.pool.lists (level_for s size) ≡ None → go_on s T t ≡ outcome (Err NoRoom) (only_call T t closed)
   unfolding look_at no_room
   looks-nowhere e = looks ∙ rw e
 
   pub looks-at :
-      (l : ℕ) → deepest T.pool.lists (level_for s size) ≡ At l → go_on s T t ≡ outcome (Found l) (only_call T t (finding size l))
+      (l : ℕ) → deepest T.pool.lists (level_for s size) ≡ Some l → go_on s T t ≡ outcome (Ok (Found l)) (only_call T t (finding size l))
   unfolding look_at
   looks-at l e = looks ∙ rw e
 
-  pub at-runs : (l : ℕ) → deepest T.pool.lists (level_for s size) ≡ At l → Running s (only_call T t (finding size l)) t (finding size l)
+  pub at-runs : (l : ℕ) → deepest T.pool.lists (level_for s size) ≡ Some l → Running s (only_call T t (finding size l)) t (finding size l)
   at-runs l e =
       go_on-runs s T t (asking size) g (only_call T t (finding size l)) (finding size l) (ap (λ (o : Outcome). o.after) (looks-at l e)) refl refl
 

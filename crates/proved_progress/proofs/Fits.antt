@@ -1,13 +1,12 @@
 -- Document 01, 'Calls and steps': a block that is granted is a block of the pool, of the deepest level whose size is at least the one asked.
 -- Assumes nothing.
-use Rattle.std.specs.Prelude.{◌≡◌, refl, true, ℕ, ◌≤◌, ◌<◌}
+use Rattle.std.specs.Prelude.{Ok, ◌≡◌, refl, true, ℕ, ◌≤◌, ◌<◌}
 use Rattle.std.proofs.Common.{◌∙◌, arith, leb-true}
 use Rattle.shape.specs.declared.Shape.{Shape}
 use Rattle.shape.specs.Limits.{allowed}
-use Rattle.shape.specs.Blocks.{size, count, id, id_pool, id_level, id_block, level_for}
+use Rattle.shape.specs.Blocks.{count, id, id_pool, id_level, id_block, level_for}
 use Rattle.shape.specs.Laws.{limits, level_for-fits}
 use Rattle.rules.specs.declared.Call.{Call}
-use Rattle.rules.specs.declared.Answer.{Answer}
 use Rattle.rules.specs.declared.Answer.TheVariants.{Granted}
 use Rattle.rules.specs.Numbers.{DIVIDING}
 use Rattle.rules.specs.Tables.{State, call_of}
@@ -20,6 +19,7 @@ use Rattle.facts.specs.Running.{Running, own-facts}
 use Rattle.history.specs.Walk.{EachGoOn}
 use Rattle.history.proofs.Walk.{each_step}
 use Rattle.proved_progress.specs.Fits.{Fits, FitsThen}
+use Rattle.rules.specs.Answers.{Answered}
 
 -- a block's id has its pool, its level and its block number back
 id-back :
@@ -54,7 +54,7 @@ grants-fit s clock c a f d h =
 module _ (s : Shape) (T : State) where
   -- it does not grant
   other :
-      {x : Step} (a : Answer) → ((i : ℕ) → a ≡ Granted i → ◌≡◌ {A = ℕ} 0 1) → (t i : ℕ) → x ≡ GoOn t → a ≡ Granted i →
+      {x : Step} (a : Answered) → ((i : ℕ) → a ≡ Ok (Granted i) → ◌≡◌ {A = ℕ} 0 1) → (t i : ℕ) → x ≡ GoOn t → a ≡ Ok (Granted i) →
       Fits s (call_of T.threads.calls t).size i
   other a n t i q e = absurd (omega (arith, n i e))
 
@@ -83,7 +83,7 @@ module _ (s : Shape) (T : State) where
           rw (same u q)
           (rw (← named _ i e) (grants-fit s T.threads.device.clock (call_of T.threads.calls t) g.sound.shape (own-facts g) d h))
         where
-          named : (j i : ℕ) → Granted j ≡ Granted i → j ≡ i
+          named : (j i : ℕ) → ◌≡◌ {A = Answered} (Ok (Granted j)) (Ok (Granted i)) → j ≡ i
           named j i e = cc
 
   steps-fit : (x : Step) → FitsThen s T x (step_on s T x)
@@ -103,6 +103,6 @@ module _ (s : Shape) (T : State) where
 
 -- whatever the tables, a go on that answers granted names a block that fits the size of the thread's call
 pub granted-fits :
-    (s : Shape) (T : State) (t i : ℕ) → (step_on s T (GoOn t)).answer ≡ Granted i →
+    (s : Shape) (T : State) (t i : ℕ) → (step_on s T (GoOn t)).answer ≡ Ok (Granted i) →
     Fits s (call_of T.threads.calls t).size i
 granted-fits s T t i e = steps-fit s T (GoOn t) t i refl e

@@ -1,7 +1,7 @@
 -- Over any history without a build, whatever the other threads do: a dividing call is granted its block at the thread's go on after as many
 -- turns as there are splits left, and a releasing call ends within one turn more than its level.
 -- Assumes nothing.
-use Rattle.std.specs.Prelude.{◌≡◌, Bool, ◌||◌, ◌⊎◌, List, [], ◌∷◌, ℕ, suc, ◌+◌, ◌-◌, ◌/◌, ◌≤◌, ◌<◌, length, take, eqb}
+use Rattle.std.specs.Prelude.{Ok, ◌≡◌, Bool, ◌||◌, ◌⊎◌, List, [], ◌∷◌, ℕ, suc, ◌+◌, ◌-◌, ◌/◌, ◌≤◌, ◌<◌, length, take, eqb}
 use Rattle.std.proofs.Math.Path.{refl, sym, ap}
 use Rattle.std.proofs.Common.{◌∙◌, true≢false, eqb-true}
 use Rattle.std.proofs.Math.Bool.{true, false}
@@ -85,8 +85,8 @@ module _ (s : Shape) (T : State) (u : ℕ) (k : Sound s T) (thread : u < s.threa
       pick :
           ((0 < (call_of T.threads.calls u).level)
           × Next (go_on s T u) u (holding RELEASING 0 ((call_of T.threads.calls u).level - 1) ((call_of T.threads.calls u).block / parts s))
-          (Merged (id s ((call_of T.threads.calls u).level - 1) ((call_of T.threads.calls u).block / parts s))))
-          ⊎ Next (go_on s T u) u closed (Settled (length (queue_of T.threads.queue))) →
+          (Ok (Merged (id s ((call_of T.threads.calls u).level - 1) ((call_of T.threads.calls u).block / parts s)))))
+          ⊎ Next (go_on s T u) u closed (Ok (Settled (length (queue_of T.threads.queue)))) →
           (((call_of (go_on s T u).after.threads.calls u).stage ≡ RELEASING)
           × ((call_of (go_on s T u).after.threads.calls u).level + 1 ≡ (call_of T.threads.calls u).level))
           ⊎ (call_of (go_on s T u).after.threads.calls u ≡ closed)
@@ -133,7 +133,7 @@ pub divides-ends :
     (call_of T.threads.calls u).stage ≡ DIVIDING → turns s T u xs ≡ left_of s (call_of T.threads.calls u) →
     (run_steps s T xs).threads.device.running ≡ u + 1 →
     ((step_on s (run_steps s T xs) (GoOn u)).answer
-    ≡ Granted (id s (call_of (run_steps s T xs).threads.calls u).level (call_of (run_steps s T xs).threads.calls u).block))
+    ≡ Ok (Granted (id s (call_of (run_steps s T xs).threads.calls u).level (call_of (run_steps s T xs).threads.calls u).block)))
     × (call_of (step_on s (run_steps s T xs) (GoOn u)).after.threads.calls u ≡ closed)
 unfolding step_on
 divides-ends s u xs T k l n d e r =

@@ -1,6 +1,6 @@
 -- Document 01, 'Calls and steps': a block that is granted is a block of the pool, of the deepest level whose size is at least the one asked.
 -- Assumes nothing.
-use Rattle.std.specs.Prelude.{◌≡◌, ℕ, ◌≤◌, ◌<◌}
+use Rattle.std.specs.Prelude.{Ok, ◌≡◌, ℕ, ◌≤◌, ◌<◌}
 use Rattle.shape.specs.declared.Shape.{Shape}
 use Rattle.shape.specs.Blocks.{size, count, id_pool, id_level, id_block, level_for}
 use Rattle.rules.specs.declared.Answer.TheVariants.{Granted}
@@ -18,4 +18,4 @@ pub record Fits (s : Shape) (asked i : ℕ) : Type 0 where
 
 -- where the step grants, it is a go on, and the block fits the size of its thread's call
 abbrev pub FitsThen : Shape → State → Step → Outcome → Type 0
-FitsThen s T x o = (t i : ℕ) → x ≡ GoOn t → o.answer ≡ Granted i → Fits s (call_of T.threads.calls t).size i
+FitsThen s T x o = (t i : ℕ) → x ≡ GoOn t → o.answer ≡ Ok (Granted i) → Fits s (call_of T.threads.calls t).size i

@@ -1,6 +1,6 @@
 -- Demand 1, 'No input breaks it', proved: for every shape, all tables and every call.
 -- Assumes nothing.
-use Rattle.std.specs.Prelude.{◌≡◌, refl, Bool, true, false, cond, ◌⊎◌, List, ℕ, length, ltb, eqb}
+use Rattle.std.specs.Prelude.{Err, Result, ◌≡◌, refl, Bool, true, false, cond, ◌⊎◌, List, ℕ, length, ltb, eqb}
 use Rattle.std.proofs.Common.{sym, ◌∙◌, ap, true≢false, inl, inr, arith, eqb-true}
 use Rattle.std.proofs.lemmas.Bool.{not-true}
 use Rattle.laws.specs.Tests.{both, either}
@@ -9,10 +9,8 @@ use Rattle.shape.specs.Blocks.{bytes}
 use Rattle.rules.specs.declared.Call.{Call}
 use Rattle.rules.specs.declared.Refusal.{Refusal}
 use Rattle.rules.specs.declared.Refusal.TheVariants.{ShapeNotAllowed, WrongLength, NotValid, OffsetOutside, RowTooShort}
-use Rattle.rules.specs.declared.Answer.TheVariants.{Refused}
 use Rattle.rules.specs.declared.Covered.{Covered}
-use Rattle.rules.specs.declared.Mapped.{Mapped}
-use Rattle.rules.specs.Answers.{refusal_number, number}
+use Rattle.rules.specs.Answers.{Answered, refusal_number, number}
 use Rattle.rules.specs.Tables.{State}
 use Rattle.rules.specs.Steps.{Outcome, outcome, only_call, closed, take_from, split_step, grant_step, merge_step, settle_step}
 use Rattle.rules.specs.Refusals.{through, checked}
@@ -24,17 +22,17 @@ use Rattle.history.specs.Walk.{closes, leaves, EachGoOn}
 use Rattle.history.proofs.Walk.{each_step}
 use Rattle.proved_refusals.specs.NoInputBreaks.{StepEnds, CoverEnds, MapEnds, NoInputBreaks}
 
-same : (r q : Refusal) → Refused r ≡ Refused q → q ≡ r
+same : (r q : Refusal) → ◌≡◌ {A = Answered} (Err r) (Err q) → q ≡ r
 same r q e = cc
 
 -- the step is made
 module _ (T : State) (x : Step) (o : Outcome) (e : listed_for (entry x) (number o.answer) ≡ true) where
-  made : ((r : Refusal) → o.answer ≡ Refused r → ◌≡◌ {A = ℕ} 0 1) → StepEnds T x o
+  made : ((r : Refusal) → o.answer ≡ Err r → ◌≡◌ {A = ℕ} 0 1) → StepEnds T x o
   made n =
       record { listed = e; untouched = λ r q k. absurd (omega (arith, n r q)); closing = λ r q k. absurd (omega (arith, n r q)) }
 
 -- it is refused, and leaves all as it was
-stays : (T : State) (x : Step) (r : Refusal) → leaves x r ≡ true → StepEnds T x (outcome (Refused r) T)
+stays : (T : State) (x : Step) (r : Refusal) → leaves x r ≡ true → StepEnds T x (outcome (Err r) T)
 stays T x r e =
     record {
       listed = (both (listed_for (entry x) (refusal_number r)) _ e).0;
@@ -44,7 +42,7 @@ stays T x r e =
     }
 
 -- it ends without a block, and closes its call
-ends : (T : State) (t : ℕ) (r : Refusal) → closes r ≡ true → StepEnds T (GoOn t) (outcome (Refused r) (only_call T t closed))
+ends : (T : State) (t : ℕ) (r : Refusal) → closes r ≡ true → StepEnds T (GoOn t) (outcome (Err r) (only_call T t closed))
 unfolding listed_for
 ends T t r k =
     record {
@@ -97,32 +95,32 @@ module _ {A : Type 0} (Q : A → Type 0) (refused : Refusal → A) (s : Shape) (
 cover-ends : (s : Shape) (T : State) (offset : ℕ) → CoverEnds (cover s T offset)
 unfolding listed_for cover
 cover-ends s T offset =
-    on-answer CoverEnds Covered.Refused s T _ (refusing _ refl) (refusing _ refl) (refusing _ refl)
+    on-answer CoverEnds Err s T _ (refusing _ refl) (refusing _ refl) (refusing _ refl)
     (own (ltb offset (bytes s)) _ (λ r e. cc))
   where
-    same-cover : (r q : Refusal) → Covered.Refused r ≡ Covered.Refused q → r ≡ q
+    same-cover : (r q : Refusal) → ◌≡◌ {A = Result Covered Refusal} (Err r) (Err q) → r ≡ q
     same-cover r q e = cc
 
-    refusing : (r : Refusal) → listed_for Entry.cover (refusal_number r) ≡ true → CoverEnds (Covered.Refused r)
+    refusing : (r : Refusal) → listed_for Entry.cover (refusal_number r) ≡ true → CoverEnds (Err r)
     refusing r k q e = rw (← same-cover r q e) k
 
-    own : (b : Bool) (found : Covered) → CoverEnds found → CoverEnds (cond b found (Covered.Refused OffsetOutside))
+    own : (b : Bool) (found : Result Covered Refusal) → CoverEnds found → CoverEnds (cond b found (Err OffsetOutside))
     own true found k = k
     own false found k = refusing OffsetOutside refl
 
 map-ends : (s : Shape) (T : State) (row : List ℕ) → MapEnds row (map_pool s T row)
 unfolding listed_for map_pool map_row
 map-ends s T row =
-    on-answer (MapEnds row) (λ r. map_outcome (Mapped.Refused r) row) s T _ (refusing _ refl) (refusing _ refl) (refusing _ refl)
+    on-answer (MapEnds row) (λ r. map_outcome (Err r) row) s T _ (refusing _ refl) (refusing _ refl) (refusing _ refl)
     (own (ltb (length row) (length (map_ids s T.pool.states))) _ (λ r e. (cc, cc)))
   where
-    same_map : (r q : Refusal) → Mapped.Refused r ≡ Mapped.Refused q → r ≡ q
+    same_map : (r q : Refusal) → ◌≡◌ {A = Result ℕ Refusal} (Err r) (Err q) → r ≡ q
     same_map r q e = cc
 
-    refusing : (r : Refusal) → listed_for Entry.map (refusal_number r) ≡ true → MapEnds row (map_outcome (Mapped.Refused r) row)
+    refusing : (r : Refusal) → listed_for Entry.map (refusal_number r) ≡ true → MapEnds row (map_outcome (Err r) row)
     refusing r k q e = (rw (← same_map r q e) k, refl)
 
-    own : (b : Bool) (written : MapOutcome) → MapEnds row written → MapEnds row (cond b (map_outcome (Mapped.Refused RowTooShort) row) written)
+    own : (b : Bool) (written : MapOutcome) → MapEnds row written → MapEnds row (cond b (map_outcome (Err RowTooShort) row) written)
     own true written k = refusing RowTooShort refl
     own false written k = k
 

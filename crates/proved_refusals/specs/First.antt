@@ -2,7 +2,7 @@
 -- condition holds, and the call alters nothing; where none holds, its step is made. A line is a refusal and the condition that the paper
 -- gives it, in the order of the numbers.
 -- Assumes nothing.
-use Rattle.std.specs.Prelude.{◌≡◌, true, false, not, cond, List, [], ◌∷◌, ◌++◌, ℕ, ◌+◌, ◌-◌, length, get_or, eqb}
+use Rattle.std.specs.Prelude.{Ok, Err, Result, ◌≡◌, true, false, not, cond, List, [], ◌∷◌, ◌++◌, ℕ, ◌+◌, ◌-◌, length, get_or, eqb}
 use Rattle.std.proofs.Math.Path.{refl}
 use Rattle.std.proofs.Common.{◌∙◌, ap}
 use Rattle.std.proofs.Math.Bool.{Bool}
@@ -15,12 +15,9 @@ use Rattle.shape.specs.Blocks.{place, bytes, id_level, id_block}
 use Rattle.shape.specs.Time.{wait}
 use Rattle.rules.specs.declared.Refusal.{Refusal}
 use Rattle.rules.specs.declared.Refusal.TheVariants.{ShapeNotAllowed, WrongLength, NotValid, NoThread, NotRunning, IsBlocked, CallOpen, NoCall, SizeAboveTop, WaitOutside, IdOutside, NotAllocated, NotOwner, ClockAtEnd, OffsetOutside, RowTooShort}
-use Rattle.rules.specs.declared.Verdict.{Verdict}
-use Rattle.rules.specs.declared.Verdict.TheVariants.{Passed, Failed}
-use Rattle.rules.specs.declared.Answer.TheVariants.{Refused, Opened, Switched, Ticked, Whole, NotWhole, Built}
+use Rattle.rules.specs.Refusals.{Verdict}
+use Rattle.rules.specs.declared.Answer.TheVariants.{Opened, Switched, Ticked, Whole, NotWhole, Built}
 use Rattle.rules.specs.declared.Covered.{Covered}
-use Rattle.rules.specs.declared.Mapped.{Mapped}
-use Rattle.rules.specs.declared.Mapped.TheVariants.{Blocks}
 use Rattle.rules.specs.Numbers.{ALLOCATED, CLOSED, WAITING, CLOCK-END}
 use Rattle.rules.specs.Tables.{State, lent, lengths, state_at, call_of, fresh}
 use Rattle.rules.specs.Valid.{valid}
@@ -39,7 +36,7 @@ row r b = record { refusal = r; applies = b }
 
 -- the first that applies
 unfoldable pub first : List Line → Verdict
-first [] = Passed
+first [] = (Ok tt)
 first (x ∷ xs) = failing x.applies x.refusal (first xs)
 
 -- what every call tries first; what a thread's call tries behind that; what a step on a held block tries
@@ -112,8 +109,8 @@ tables-first s T = go (not (allowed s)) (not (lengths s T)) (not (valid s T))
   where
     go :
         (a l v : Bool) →
-        through Failed (failing a ShapeNotAllowed (failing l WrongLength Passed)) (failing v NotValid Passed)
-        ≡ failing a ShapeNotAllowed (failing l WrongLength (failing v NotValid Passed))
+        through Err (failing a ShapeNotAllowed (failing l WrongLength (Ok tt))) (failing v NotValid (Ok tt))
+        ≡ failing a ShapeNotAllowed (failing l WrongLength (failing v NotValid (Ok tt)))
     go true l v = refl
     go false true v = refl
     go false false v = refl
@@ -152,7 +149,7 @@ module _ (s : Shape) (T : State) where
   pub build-first :
       build s T
       ≡ through (refused T) (first (row ShapeNotAllowed (not (allowed s)) ∷ row WrongLength (not (lengths s T)) ∷ []))
-      (outcome Built (fresh s))
+      (outcome (Ok Built) (fresh s))
   unfolding build fitting first
   build-first = refl
 
@@ -160,7 +157,7 @@ module _ (s : Shape) (T : State) where
       (t size : ℕ) (m : Millis) →
       ask s T t size m
       ≡ through (refused T) (first (ask_lines s T t size m))
-      (outcome Opened (only_call T t (asked_call T.threads.device.clock size (wait m.0))))
+      (outcome (Ok Opened) (only_call T t (asked_call T.threads.device.clock size (wait m.0))))
   unfolding ask ask_step
   ask-first t size m =
       behind-thread s T t _ _
@@ -174,69 +171,69 @@ module _ (s : Shape) (T : State) where
 
   pub give-first :
       (t i : ℕ) →
-      give s T t i ≡ through (refused T) (first (give_lines s T t i)) (outcome Opened (given s T t (id_level i) (id_block i)))
+      give s T t i ≡ through (refused T) (first (give_lines s T t i)) (outcome (Ok Opened) (given s T t (id_level i) (id_block i)))
   unfolding give give_step held_by first
   give-first t i =
       behind-thread s T t (row CallOpen (is_open T t) ∷ of_block s T t i) made
       (refuse-first T (is_open T t) CallOpen (of_block s T t i) made refl)
     where
       made : Outcome
-      made = outcome Opened (given s T t (id_level i) (id_block i))
+      made = outcome (Ok Opened) (given s T t (id_level i) (id_block i))
 
   pub switch-first :
       (t : ℕ) →
       switch s T t
-      ≡ through (refused T) (first (switch_lines s T t)) (outcome Switched (only_device T T.threads.device.clock (t + 1)))
+      ≡ through (refused T) (first (switch_lines s T t)) (outcome (Ok Switched) (only_device T T.threads.device.clock (t + 1)))
   unfolding switch switch_step
   switch-first t = behind (refused T) s T _ _ (refuse-first T _ NoThread _ _ (refuse-first T _ IsBlocked _ _ (none _)))
 
   pub tick-first :
       tick s T
       ≡ through (refused T) (first (tick_lines s T))
-      (outcome (Ticked (length (due_at T.threads (T.threads.device.clock + 1)))) (lent T.pool (ticked s T.threads)))
+      (outcome (Ok (Ticked (length (due_at T.threads (T.threads.device.clock + 1))))) (lent T.pool (ticked s T.threads)))
   unfolding tick tick_step
   tick-first = behind (refused T) s T _ _ (refuse-first T _ ClockAtEnd _ _ (none _))
 
-  pub whole-first : whole s T ≡ through Refused (first (of_tables s T)) (cond (is_whole s T) Whole NotWhole)
+  pub whole-first : whole s T ≡ through Err (first (of_tables s T)) (cond (is_whole s T) (Ok Whole) (Ok NotWhole))
   unfolding whole
   whole-first = rw (tables-first s T)
 
   pub cover-first :
       (x : ℕ) →
       cover s T x
-      ≡ through Covered.Refused (first (cover_lines s T x))
+      ≡ through Err (first (cover_lines s T x))
       (block_over s T.pool.states x (cover_level s T.pool.states x (s.levels - 1)))
   unfolding cover first
-  cover-first x = behind Covered.Refused s T (row OffsetOutside (not (ltb x (bytes s))) ∷ []) over (go (ltb x (bytes s)) over)
+  cover-first x = behind Err s T (row OffsetOutside (not (ltb x (bytes s))) ∷ []) over (go (ltb x (bytes s)) over)
     where
-      over : Covered
+      over : Result Covered Refusal
       over = block_over s T.pool.states x (cover_level s T.pool.states x (s.levels - 1))
 
       go :
-          (b : Bool) (block : Covered) →
-          cond b block (Covered.Refused OffsetOutside)
-          ≡ through Covered.Refused (first (row OffsetOutside (not b) ∷ [])) block
+          (b : Bool) (block : Result Covered Refusal) →
+          cond b block (Err OffsetOutside)
+          ≡ through Err (first (row OffsetOutside (not b) ∷ [])) block
       go true block = refl
       go false block = refl
 
   pub map_first :
       (places : List ℕ) →
       map_pool s T places
-      ≡ through (λ r. map_outcome (Mapped.Refused r) places) (first (map_lines s T places))
-      (map_outcome (Blocks (length (map_ids s T.pool.states))) (sets places 0 (map_ids s T.pool.states)))
+      ≡ through (λ r. map_outcome (Err r) places) (first (map_lines s T places))
+      (map_outcome (Ok (length (map_ids s T.pool.states))) (sets places 0 (map_ids s T.pool.states)))
   unfolding map_pool map_row first
   map_first places =
-      behind (λ r. map_outcome (Mapped.Refused r) places) s T (row RowTooShort short ∷ []) all (go short all)
+      behind (λ r. map_outcome (Err r) places) s T (row RowTooShort short ∷ []) all (go short all)
     where
       short : Bool
       short = ltb (length places) (length (map_ids s T.pool.states))
 
       all : MapOutcome
-      all = map_outcome (Blocks (length (map_ids s T.pool.states))) (sets places 0 (map_ids s T.pool.states))
+      all = map_outcome (Ok (length (map_ids s T.pool.states))) (sets places 0 (map_ids s T.pool.states))
 
       go :
           (b : Bool) (listed : MapOutcome) →
-          cond b (map_outcome (Mapped.Refused RowTooShort) places) listed
-          ≡ through (λ r. map_outcome (Mapped.Refused r) places) (first (row RowTooShort b ∷ [])) listed
+          cond b (map_outcome (Err RowTooShort) places) listed
+          ≡ through (λ r. map_outcome (Err r) places) (first (row RowTooShort b ∷ [])) listed
       go true listed = refl
       go false listed = refl

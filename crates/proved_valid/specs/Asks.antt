@@ -1,12 +1,12 @@
 -- Ask, switch and tick: the tables stay kept.
 -- Assumes nothing.
-use Rattle.std.specs.Prelude.{◌≡◌, refl, true, false, List, ℕ, ◌+◌, ◌≤◌, ◌<◌, leb, eqb}
+use Rattle.std.specs.Prelude.{Option, None, Some, ◌≡◌, refl, true, false, List, ℕ, ◌+◌, ◌≤◌, ◌<◌, leb, eqb}
 use Rattle.std.proofs.Common.{sym, ◌∙◌, arith, le-leb, ltb-true, eq-eqb}
 use Rattle.std.proofs.lemmas.Bool.{false≢true}
 use Rattle.laws.specs.Tests.{both, both_of}
 use Rattle.shape.specs.declared.Shape.{Shape}
 use Rattle.shape.specs.declared.time.Wait.{Wait}
-use Rattle.shape.specs.declared.time.Wait.TheVariants.{Never, Forever, Timed, Outside}
+use Rattle.shape.specs.declared.time.Wait.TheVariants.{Never, Forever, Timed}
 use Rattle.shape.specs.Time.{ticks, longest, ticks_of}
 use Rattle.rules.specs.declared.Call.{Call}
 use Rattle.rules.specs.Numbers.{CLOSED, WAITING, TIMED}
@@ -25,30 +25,30 @@ use Rattle.proved_valid.specs.Wakes.{wakes-kept}
 
 -- the call that an ask opens
 new-kept :
-    (s : Shape) (clock size : ℕ) (w : Wait) → size ≤ s.top_size → ticks_of w ≤ ticks longest →
+    (s : Shape) (clock size : ℕ) (w : Option Wait) → size ≤ s.top_size → ticks_of w ≤ ticks longest →
     call_kept s clock (asked_call clock size w) ≡ true
 unfolding asked_call call_kept fields_used hand_inside target_kept size_kept found_kept deadline_kept may_wait
-new-kept s clock size Never h k = rw (le-leb _ _ h)
-new-kept s clock size Forever h k = rw (le-leb _ _ h)
-new-kept s clock size (Timed n) h k = rw (le-leb _ _ h, le-leb (clock + n.0) (clock + ticks longest) (omega arith))
-new-kept s clock size Outside h k = rw (le-leb _ _ h)
+new-kept s clock size (Some Never) h k = rw (le-leb _ _ h)
+new-kept s clock size (Some Forever) h k = rw (le-leb _ _ h)
+new-kept s clock size (Some (Timed n)) h k = rw (le-leb _ _ h, le-leb (clock + n.0) (clock + ticks longest) (omega arith))
+new-kept s clock size None h k = rw (le-leb _ _ h)
 
-new-idle : (clock size : ℕ) (w : Wait) → uses_block (asked_call clock size w) ≡ false
+new-idle : (clock size : ℕ) (w : Option Wait) → uses_block (asked_call clock size w) ≡ false
 unfolding asked_call
-new-idle clock size Never = refl
-new-idle clock size Forever = refl
-new-idle clock size (Timed n) = refl
-new-idle clock size Outside = refl
+new-idle clock size (Some Never) = refl
+new-idle clock size (Some Forever) = refl
+new-idle clock size (Some (Timed n)) = refl
+new-idle clock size None = refl
 
-new-ready : (clock size : ℕ) (w : Wait) → (asked_call clock size w).stage ≡ WAITING → ⊥
+new-ready : (clock size : ℕ) (w : Option Wait) → (asked_call clock size w).stage ≡ WAITING → ⊥
 unfolding asked_call
-new-ready clock size Never e = omega arith
-new-ready clock size Forever e = omega arith
-new-ready clock size (Timed n) e = omega arith
-new-ready clock size Outside e = omega arith
+new-ready clock size (Some Never) e = omega arith
+new-ready clock size (Some Forever) e = omega arith
+new-ready clock size (Some (Timed n)) e = omega arith
+new-ready clock size None e = omega arith
 
 pub ask-kept :
-    {s : Shape} {T : State} {t : ℕ} {c : Call} → Running s T t c → c.stage ≡ CLOSED → (size : ℕ) (w : Wait) →
+    {s : Shape} {T : State} {t : ℕ} {c : Call} → Running s T t c → c.stage ≡ CLOSED → (size : ℕ) (w : Option Wait) →
     size ≤ s.top_size → ticks_of w ≤ ticks longest → Facts s (only_call T t (asked_call T.threads.device.clock size w))
 ask-kept {s} {T} {t} {c} g o size w h k =
     only-call g (asked_call T.threads.device.clock size w) (uses-block c CLOSED o) (new-idle T.threads.device.clock size w)

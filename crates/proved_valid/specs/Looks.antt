@@ -1,6 +1,6 @@
 -- Asked: a call that looks for room ends, finds a level, or waits; the tables stay kept.
 -- Assumes nothing.
-use Rattle.std.specs.Prelude.{◌≡◌, false, [], ◌∷◌, ◌++◌, ℕ, ◌+◌, ◌<◌}
+use Rattle.std.specs.Prelude.{Some, ◌≡◌, false, [], ◌∷◌, ◌++◌, ℕ, ◌+◌, ◌<◌}
 use Rattle.std.proofs.Math.Path.{refl}
 use Rattle.std.proofs.Common.{◌∙◌, ap, ap₂, arith, eq-eqb, ne_eqb}
 use Rattle.laws.specs.Tests.{bit}
@@ -9,7 +9,6 @@ use Rattle.laws.specs.Times.{times-append, times-one}
 use Rattle.shape.specs.declared.Shape.{Shape}
 use Rattle.shape.specs.Blocks.{level_for}
 use Rattle.rules.specs.declared.Call.{Call}
-use Rattle.rules.specs.declared.Room.TheVariants.{At}
 use Rattle.rules.specs.Numbers.{ASKED, FOUND, WAITING, NEVER, TIMED}
 use Rattle.rules.specs.Tables.{State, queue_of, put_call, lent}
 use Rattle.rules.specs.Valid.{uses_block, running_ready}
@@ -64,7 +63,7 @@ module _ {s : Shape} {T : State} {t : ℕ} {c : Call} (g : Running s T t c) (e :
       }
 
   -- a level is found
-  pub find-kept : (l : ℕ) → deepest T.pool.lists (level_for s c.size) ≡ At l → Facts s (only_call T t (moved c FOUND l))
+  pub find-kept : (l : ℕ) → deepest T.pool.lists (level_for s c.size) ≡ Some l → Facts s (only_call T t (moved c FOUND l))
   find-kept l q =
       only-call g (moved c FOUND l) idle refl (λ q. omega arith)
       (found-kept s T.threads.device.clock c (asking g ASKED e refl refl) l

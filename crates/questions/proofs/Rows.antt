@@ -1,5 +1,6 @@
 -- Laws of map's row: the pool's top blocks are listed as its parts, and an empty row is written nowhere, so listing in it only counts.
 -- Assumes nothing.
+use Rattle.std.specs.Prelude.{Ok, Err}
 use mathlib.Core.Path.{◌≡◌, refl, ◌∙◌, ap}
 use mathlib.Core.Bool.{true}
 use mathlib.Core.List.{List, [], ◌∷◌, ◌++◌}
@@ -14,8 +15,6 @@ use Rattle.shape.specs.Limits.{parts, allowed}
 use Rattle.shape.specs.Blocks.{count, blocks}
 use Rattle.shape.specs.Laws.{limits, count-top}
 use Rattle.rules.specs.declared.Refusal.TheVariants.{RowTooShort}
-use Rattle.rules.specs.declared.Mapped.{Mapped}
-use Rattle.rules.specs.declared.Mapped.TheVariants.{Blocks}
 use Rattle.rules.specs.Questions.{listed, map_block, map_ids, map_outcome, map_row}
 use Rattle.questions.specs.Listing.{level_above, Listable, Listed}
 use Rattle.questions.proofs.Listings.{listed-most, map_block-most}
@@ -52,7 +51,7 @@ roomy s states =
 -- where the row is long enough, the ids are written
 pub mapped :
     (s : Shape) (states : List ℕ) {row after : List ℕ} {next : ℕ} → length (map_ids s states) ≤ length row →
-    Listed row 0 (map_ids s states) next after → map_outcome (Blocks next) after ≡ map_row s states row
+    Listed row 0 (map_ids s states) next after → map_outcome (Ok next) after ≡ map_row s states row
 unfolding map_row
 mapped s states {row} h p = rw (le-ltb (length row) (length (map_ids s states)) h, p.answered ∙ zero-add _, p.written)
 
@@ -63,11 +62,11 @@ module _ (s : Shape) (states row nowhere : List ℕ) (n : ℕ) (counted : Listed
   untouched : nowhere ++ row ≡ row
   untouched = ap (λ (r : List ℕ). r ++ row) (counted.written ∙ sets-nowhere (map_ids s states) 0)
 
-  pub too_short : length (nowhere ++ row) < n → map_outcome (Mapped.Refused RowTooShort) (nowhere ++ row) ≡ map_row s states row
+  pub too_short : length (nowhere ++ row) < n → map_outcome (Err RowTooShort) (nowhere ++ row) ≡ map_row s states row
   unfolding map_row
   too_short h = rw (untouched, lt-ltb (length row) (length (map_ids s states)) (rw (untouched, fits) at h))
 
   pub counted-first :
       {next : ℕ} {after : List ℕ} → n ≤ length (nowhere ++ row) → Listed (nowhere ++ row) 0 (map_ids s states) next after →
-      map_outcome (Blocks next) after ≡ map_row s states row
+      map_outcome (Ok next) after ≡ map_row s states row
   counted-first h p = mapped s states (rw (untouched, fits) at h) (rw untouched at p)

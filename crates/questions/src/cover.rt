@@ -21,29 +21,28 @@ fn cover_level(s: Shape, states: &[u8], x: usize) -> usize
     requires { (allowed s ≡ true) × (length states.now ≡ blocks s) × (x < bytes s) }
     ensures { (result ≡ cover_level s states.now x (s.levels - 1)) × (result < s.levels) }
 {
-    let mut level = s.levels - 1;
-    while 0 < level {
+    for level in (1..s.levels).rev() {
         let state = states[s.place(level, block_over(s, x, level))];
         if (state != rules::DIVIDED) & (state != rules::NOEXIST) {
             return level;
         }
-        level = level - 1;
     }
     0
 }
 
 // The undivided existing block over an offset; refused where the offset is outside the pool.
-pub fn cover_at(s: Shape, states: &[u8], x: usize) -> Covered
+#[tactic(auto, unfolding(crate::specs::Cover::cover_at))]
+pub fn cover_at(s: Shape, states: &[u8], x: usize) -> Result<Covered, Refusal>
     requires { (allowed s ≡ true) × (length states.now ≡ blocks s) }
     ensures { result ≡ cover_at s states.now x }
 {
     if s.bytes() <= x {
-        return Covered::Refused(Refusal::OffsetOutside);
+        return Err(Refusal::OffsetOutside);
     }
     let level = cover_level(s, states, x);
     let block = block_over(s, x, level);
-    Covered::Block {
+    Ok(Covered {
         id: s.id(level, block),
         state: states[s.place(level, block)],
-    }
+    })
 }

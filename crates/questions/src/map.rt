@@ -5,7 +5,7 @@ ghost use Rattle.shape.specs.Blocks.{blocks};
 ghost use Rattle.rules.specs.Questions.{listed, map_block, map_ids, map_outcome, map_row};
 ghost use Rattle.questions.specs.Listing.{level_above, Listable, Listed};
 
-use rules::{Mapped, Refusal};
+use rules::Refusal;
 use shape::Shape;
 
 // Lists a block from a place of the row on, a DIVIDED one as its parts and any other by its id, and answers the next place;
@@ -58,10 +58,8 @@ fn list_parts(
         row.new }
 {
     let mut next = at;
-    let mut i = 0;
-    while i < count {
+    for i in 0..count {
         next = list_block(s, states, row, next, depth, block + i);
-        i += 1;
     }
     next
 }
@@ -76,16 +74,16 @@ fn list_pool(s: Shape, states: &[u8], row: &mut [u32]) -> usize
 
 // The map in a lent row. A row with a place for each block of the deepest level is long enough; for another the map is counted first, so that
 // a row that is too short is refused untouched.
-pub fn map_row(s: Shape, states: &[u8], row: &mut [u32]) -> Mapped
+pub fn map_row(s: Shape, states: &[u8], row: &mut [u32]) -> Result<usize, Refusal>
     requires { (allowed s ≡ true) × (length states.now ≡ blocks s) }
     ensures { map_outcome result row.new ≡ map_row s states.now row.old }
 {
     if s.count(s.levels - 1) <= row.len() {
-        return Mapped::Blocks(list_pool(s, states, row));
+        return Ok(list_pool(s, states, row));
     }
     let count = list_pool(s, states, &mut row[..0]);
     if row.len() < count {
-        return Mapped::Refused(Refusal::RowTooShort);
+        return Err(Refusal::RowTooShort);
     }
-    Mapped::Blocks(list_pool(s, states, row))
+    Ok(list_pool(s, states, row))
 }

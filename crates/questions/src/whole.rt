@@ -16,13 +16,7 @@ fn tops_free(states: &[u8], tops: usize) -> bool
     requires { tops ≤ length states.now }
     ensures { result ≡ every tops (λ b. eqb (get_or states.now b 0) FREE) }
 {
-    let mut ok = true;
-    let mut b = 0;
-    while b < tops {
-        ok = ok & (states[b] == rules::FREE);
-        b += 1;
-    }
-    ok
+    states[..tops].iter().all(|&state| state == rules::FREE)
 }
 
 // Whether no thread has a call open.
@@ -30,14 +24,13 @@ fn none_open(calls: &[u64], threads: usize) -> bool
     requires { CELLS * threads ≤ length calls.now }
     ensures { result ≡ every threads (λ t. eqb (call_of calls.now t).stage CLOSED) }
 {
-    let mut ok = true;
-    let mut t = 0;
-    while t < threads {
-        let call = call_of(calls, t);
-        ok = ok & (call.stage == rules::CLOSED);
-        t += 1;
+    for t in 0..threads {
+        let open = call_of(calls, t).stage != rules::CLOSED;
+        if open {
+            return false;
+        }
     }
-    ok
+    true
 }
 
 // Whether the pool is whole.
@@ -46,6 +39,5 @@ pub fn is_whole(s: Shape, states: &[u8], calls: &[u64]) -> bool
     ensures { (owners lists queue : List ℕ) (device : Device) →
         result ≡ is_whole s (state states.now owners lists calls.now queue device) }
 {
-    let free = tops_free(states, s.tops);
-    free & none_open(calls, s.threads)
+    tops_free(states, s.tops) && none_open(calls, s.threads)
 }

@@ -1,10 +1,14 @@
 -- Document 01, 'Refusal numbers' and 'Script and listing': the number and the detail of each answer.
 -- Assumes nothing.
-use Rattle.std.specs.Prelude.{ℕ}
+use Rattle.std.specs.Prelude.{Ok, Err, Result, ℕ}
 use Rattle.rules.specs.declared.Refusal.{Refusal}
 use Rattle.rules.specs.declared.Refusal.TheVariants.{ShapeNotAllowed, WrongLength, NotValid, NoThread, NotRunning, IsBlocked, CallOpen, NoCall, SizeAboveTop, WaitOutside, IdOutside, NotAllocated, NotOwner, NoRoom, TimedOut, ClockAtEnd, BadRecord, OffsetOutside, RowTooShort}
 use Rattle.rules.specs.declared.Answer.{Answer}
-use Rattle.rules.specs.declared.Answer.TheVariants.{Refused, Opened, Found, Again, Taken, Split, Granted, Waiting, Merged, Settled, Switched, Ticked, Whole, NotWhole, Built}
+use Rattle.rules.specs.declared.Answer.TheVariants.{Opened, Found, Again, Taken, Split, Granted, Waiting, Merged, Settled, Switched, Ticked, Whole, NotWhole, Built}
+
+-- what a call gives: its answer, or the refusal
+abbrev pub Answered : Type 0
+Answered = Result Answer Refusal
 
 -- the table of refusals
 abbrev pub refusal_number : Refusal → ℕ
@@ -50,37 +54,37 @@ refusal_detail OffsetOutside = 0
 refusal_detail RowTooShort = 0
 
 -- the answer's number in the listing
-abbrev pub number : Answer → ℕ
-number (Refused r) = refusal_number r
-number Opened = 40
-number (Found l) = 41
-number Again = 42
-number (Taken i) = 43
-number (Split i) = 44
-number (Granted i) = 45
-number Waiting = 46
-number (Merged i) = 47
-number (Settled n) = 48
-number Switched = 49
-number (Ticked n) = 50
-number Whole = 51
-number NotWhole = 52
-number Built = 53
+abbrev pub number : Answered → ℕ
+number (Err r) = refusal_number r
+number (Ok Opened) = 40
+number (Ok (Found l)) = 41
+number (Ok Again) = 42
+number (Ok (Taken i)) = 43
+number (Ok (Split i)) = 44
+number (Ok (Granted i)) = 45
+number (Ok Waiting) = 46
+number (Ok (Merged i)) = 47
+number (Ok (Settled n)) = 48
+number (Ok Switched) = 49
+number (Ok (Ticked n)) = 50
+number (Ok Whole) = 51
+number (Ok NotWhole) = 52
+number (Ok Built) = 53
 
 -- the found level for 41; the id in hand after the step for 43, 44, 45 and 47; the number of threads woken for 48 and 50; the offset for 17; else 0
-abbrev pub detail : Answer → ℕ
-detail (Refused r) = refusal_detail r
-detail Opened = 0
-detail (Found l) = l
-detail Again = 0
-detail (Taken i) = i
-detail (Split i) = i
-detail (Granted i) = i
-detail Waiting = 0
-detail (Merged i) = i
-detail (Settled n) = n
-detail Switched = 0
-detail (Ticked n) = n
-detail Whole = 0
-detail NotWhole = 0
-detail Built = 0
+abbrev pub detail : Answered → ℕ
+detail (Err r) = refusal_detail r
+detail (Ok Opened) = 0
+detail (Ok (Found l)) = l
+detail (Ok Again) = 0
+detail (Ok (Taken i)) = i
+detail (Ok (Split i)) = i
+detail (Ok (Granted i)) = i
+detail (Ok Waiting) = 0
+detail (Ok (Merged i)) = i
+detail (Ok (Settled n)) = n
+detail (Ok Switched) = 0
+detail (Ok (Ticked n)) = n
+detail (Ok Whole) = 0
+detail (Ok NotWhole) = 0
+detail (Ok Built) = 0

@@ -1,11 +1,11 @@
 -- Document 01, 'Calls and steps' and 'Refusal numbers': each public call on any tables, its refusals in the table's order.
 -- Assumes nothing.
-use Rattle.std.specs.Prelude.{Bool, true, false, not, ◌&&◌, List, ℕ, ◌+◌, length, set, ltb, eqb}
+use Rattle.std.specs.Prelude.{Option, None, Some, Ok, Bool, true, false, not, ◌&&◌, List, ℕ, ◌+◌, length, set, ltb, eqb}
 use Rattle.laws.specs.Lists.{keep}
 use Rattle.shape.specs.declared.Shape.{Shape}
 use Rattle.shape.specs.declared.time.Millis.{Millis}
 use Rattle.shape.specs.declared.time.Wait.{Wait}
-use Rattle.shape.specs.declared.time.Wait.TheVariants.{Never, Forever, Timed, Outside}
+use Rattle.shape.specs.declared.time.Wait.TheVariants.{Never, Forever, Timed}
 use Rattle.shape.specs.Blocks.{place, id_level, id_block}
 use Rattle.shape.specs.Time.{wait}
 use Rattle.rules.specs.declared.Call.{Call}
@@ -18,31 +18,29 @@ use Rattle.rules.specs.Refusals.{through, fitting, checked, refused, refuse, by_
 
 -- fresh tables, whatever they held
 unfoldable pub build : Shape → State → Outcome
-build s T = through (refused T) (fitting s T) (outcome Built (fresh s))
+build s T = through (refused T) (fitting s T) (outcome (Ok Built) (fresh s))
 
 -- a call that is asked, with the deadline at the clock plus ticks
-unfoldable pub asked_call : ℕ → ℕ → Wait → Call
-asked_call clock size Never =
+unfoldable pub asked_call : ℕ → ℕ → Option Wait → Call
+asked_call clock size (Some Never) =
     record { stage = ASKED; size = size; wait = NEVER; deadline = 0; level = 0; block = 0 }
-asked_call clock size Forever =
+asked_call clock size (Some Forever) =
     record { stage = ASKED; size = size; wait = FOREVER; deadline = 0; level = 0; block = 0 }
-asked_call clock size (Timed ticks) =
+asked_call clock size (Some (Timed ticks)) =
     record { stage = ASKED; size = size; wait = TIMED; deadline = clock + ticks.0; level = 0; block = 0 }
-asked_call clock size Outside = record { stage = ASKED; size = size; wait = NEVER; deadline = 0; level = 0; block = 0 }
+asked_call clock size None = record { stage = ASKED; size = size; wait = NEVER; deadline = 0; level = 0; block = 0 }
 
-abbrev pub is_outside : Wait → Bool
-is_outside Never = false
-is_outside Forever = false
-is_outside (Timed ticks) = false
-is_outside Outside = true
+abbrev pub is_outside : Option Wait → Bool
+is_outside (Some w) = false
+is_outside None = true
 
 -- ask, refusals 9 and 10 last: the call becomes asked
-unfoldable pub ask_step : Shape → State → ℕ → ℕ → Wait → Outcome
+unfoldable pub ask_step : Shape → State → ℕ → ℕ → Option Wait → Outcome
 ask_step s T t size w =
     by_idle T t
     (refuse (ltb s.top_size size) SizeAboveTop T
     (refuse (is_outside w) WaitOutside T
-    (outcome Opened (only_call T t (asked_call T.threads.device.clock size w)))))
+    (outcome (Ok Opened) (only_call T t (asked_call T.threads.device.clock size w)))))
 
 unfoldable pub ask : Shape → State → ℕ → ℕ → Millis → Outcome
 ask s T t size m = checked (refused T) s T (by_running s T t (ask_step s T t size (wait m.0)))
@@ -64,7 +62,7 @@ given s T t l b = lent (give_pool s T.pool l b) (with_call T.threads t (holding 
 
 -- give back a block that the thread holds
 unfoldable pub give_step : Shape → State → ℕ → ℕ → Outcome
-give_step s T t i = by_idle T t (of_held s T t i (outcome Opened (given s T t (id_level i) (id_block i))))
+give_step s T t i = by_idle T t (of_held s T t i (outcome (Ok Opened) (given s T t (id_level i) (id_block i))))
 
 unfoldable pub give : Shape → State → ℕ → ℕ → Outcome
 give s T t i = checked (refused T) s T (by_running s T t (give_step s T t i))
@@ -79,7 +77,7 @@ unfoldable pub switch_step : Shape → State → ℕ → Outcome
 switch_step s T t =
     refuse (not (ltb t s.threads)) NoThread T
     (refuse (eqb (call_of T.threads.calls t).stage WAITING) IsBlocked T
-    (outcome Switched (only_device T T.threads.device.clock (t + 1))))
+    (outcome (Ok Switched) (only_device T T.threads.device.clock (t + 1))))
 
 unfoldable pub switch : Shape → State → ℕ → Outcome
 switch s T t = checked (refused T) s T (switch_step s T t)
@@ -103,7 +101,7 @@ ticked s W =
 unfoldable pub tick_step : Shape → State → Outcome
 tick_step s T =
     refuse (eqb T.threads.device.clock CLOCK-END) ClockAtEnd T
-    (outcome (Ticked (length (due_at T.threads (T.threads.device.clock + 1)))) (lent T.pool (ticked s T.threads)))
+    (outcome (Ok (Ticked (length (due_at T.threads (T.threads.device.clock + 1))))) (lent T.pool (ticked s T.threads)))
 
 unfoldable pub tick : Shape → State → Outcome
 tick s T = checked (refused T) s T (tick_step s T)

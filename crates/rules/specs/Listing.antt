@@ -1,16 +1,13 @@
 -- Document 01, 'Script and listing': the bytes of the listing that a script prints.
 -- Assumes nothing.
-use Rattle.std.specs.Prelude.{Bool, cond, List, [], ◌∷◌, ◌++◌, ℕ, zero, suc, ◌+◌, length, leb, ltb, eqb}
+use Rattle.std.specs.Prelude.{Err, Some, None, Option, Bool, cond, List, [], ◌∷◌, ◌++◌, ℕ, zero, suc, ◌+◌, length, leb, ltb, eqb}
 use Rattle.laws.specs.Digits.{digits}
 use Rattle.shape.specs.declared.Shape.{Shape}
 use Rattle.rules.specs.declared.Refusal.TheVariants.{BadRecord}
-use Rattle.rules.specs.declared.Answer.{Answer}
-use Rattle.rules.specs.declared.Answer.TheVariants.{Refused}
 use Rattle.rules.specs.declared.script.Record.{Record}
 use Rattle.rules.specs.declared.script.Record.TheVariants.{Pool, Ask, ShortAsk, GoOn, Give, Switch, Tick, Whole}
-use Rattle.rules.specs.declared.script.Read.{Read}
 use Rattle.rules.specs.Numbers.{MOST-BYTES}
-use Rattle.rules.specs.Answers.{number, detail}
+use Rattle.rules.specs.Answers.{Answered, number, detail}
 use Rattle.rules.specs.Tables.{State, fresh}
 use Rattle.rules.specs.Steps.{Outcome, outcome}
 use Rattle.rules.specs.Calls.{build, ask, go_on, give, switch, tick}
@@ -45,19 +42,19 @@ header =
     110 ∷ 32 ∷ 116 ∷ 97 ∷ 103 ∷ 32 ∷ 97 ∷ 110 ∷ 115 ∷ 119 ∷ 101 ∷ 114 ∷ 32 ∷ 100 ∷ 101 ∷ 116 ∷ 97 ∷ 105 ∷ 108 ∷ 10 ∷ []
 
 -- each line has: record number from 0, tag (the byte read, bad or not), answer, detail
-unfoldable pub line : ℕ → ℕ → Answer → List ℕ
+unfoldable pub line : ℕ → ℕ → Answered → List ℕ
 line n tag a = digits n ++ (32 ∷ digits tag ++ (32 ∷ digits (number a) ++ (32 ∷ digits (detail a) ++ (10 ∷ []))))
 
 -- refusal 1 stops the run
-abbrev pub stops : Answer → Bool
+abbrev pub stops : Answered → Bool
 stops a = eqb (number a) 1
 
 -- the line of what was read at an offset, and those of the rest of the script, from the next offset and tables on
-unfoldable pub read_lines : (ℕ → Shape → State → List ℕ) → List ℕ → ℕ → ℕ → Shape → State → Read → List ℕ
-read_lines rest xs n at s T (Read.Record r next) =
+unfoldable pub read_lines : (ℕ → Shape → State → List ℕ) → List ℕ → ℕ → ℕ → Shape → State → Option (Record × ℕ) → List ℕ
+read_lines rest xs n at s T (Some (r, next)) =
     line n (tag_at xs at) (record_step s T r).answer
     ++ cond (stops (record_step s T r).answer) [] (rest next (shape_after s r) (record_step s T r).after)
-read_lines rest xs n at s T Read.Bad = line n (tag_at xs at) (Refused (BadRecord at))
+read_lines rest xs n at s T None = line n (tag_at xs at) (Err (BadRecord at))
 
 -- the lines of the records from an offset on, the first of them with number n; no more records than this are read
 unfoldable pub lines : ℕ → List ℕ → ℕ → ℕ → Shape → State → List ℕ
@@ -73,6 +70,6 @@ no_shape = record { pool = 0; threads = 0; levels = 0; tops = 0; top_size = 0 }
 unfoldable pub listing : List ℕ → List ℕ
 listing xs =
     header
-    ++ cond (eqb (length xs) 0) (line 0 0 (Refused (BadRecord 0)))
-    (cond (ltb MOST-BYTES (length xs)) (line 0 0 (Refused (BadRecord MOST-BYTES)))
+    ++ cond (eqb (length xs) 0) (line 0 0 (Err (BadRecord 0)))
+    (cond (ltb MOST-BYTES (length xs)) (line 0 0 (Err (BadRecord MOST-BYTES)))
     (lines (length xs) xs 0 0 no_shape (fresh no_shape)))

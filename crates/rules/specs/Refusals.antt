@@ -1,38 +1,39 @@
 -- Document 01, 'Refusal numbers': refusals are tried in the table's order, and the first that applies is given. Here those that every call
 -- tries first, and those of a step on a block that a thread holds.
 -- Assumes nothing.
-use Rattle.std.specs.Prelude.{Bool, true, false, not, ◌&&◌, List, ℕ, ◌+◌, get_or, ltb, eqb}
+use Rattle.std.specs.Prelude.{⊤, Result, Ok, Err, Bool, true, false, not, ◌&&◌, List, ℕ, ◌+◌, get_or, ltb, eqb}
 use Rattle.shape.specs.declared.Shape.{Shape}
 use Rattle.shape.specs.Limits.{allowed}
 use Rattle.shape.specs.Blocks.{count, place, id_pool, id_level, id_block}
 use Rattle.rules.specs.declared.Device.{Device}
 use Rattle.rules.specs.declared.Refusal.{Refusal}
 use Rattle.rules.specs.declared.Refusal.TheVariants.{ShapeNotAllowed, WrongLength, NotValid, NoThread, NotRunning, CallOpen, IdOutside, NotAllocated, NotOwner}
-use Rattle.rules.specs.declared.Verdict.{Verdict}
-use Rattle.rules.specs.declared.Verdict.TheVariants.{Passed, Failed}
-use Rattle.rules.specs.declared.Answer.TheVariants.{Refused}
 use Rattle.rules.specs.Numbers.{ALLOCATED, CLOSED}
 use Rattle.rules.specs.Tables.{State, lengths, state_at, call_of}
 use Rattle.rules.specs.Valid.{valid}
 use Rattle.rules.specs.Steps.{Outcome, outcome}
 
+-- what a check gives: nothing where all passed, or the refusal
+abbrev pub Verdict : Type 0
+Verdict = Result ⊤ Refusal
+
 -- where the test passes, this is the refusal; otherwise the next is tried
 abbrev pub failing : Bool → Refusal → Verdict → Verdict
-failing true r next = Failed r
+failing true r next = Err r
 failing false r next = next
 
 -- what follows from a verdict: the refusal, or else what stands behind it
 abbrev pub through : {A : Type 0} → (Refusal → A) → Verdict → A → A
-through refused Passed rest = rest
-through refused (Failed r) rest = refused r
+through refused (Ok _) rest = rest
+through refused (Err r) rest = refused r
 
 -- what every call tries first: refusals 1 and 2
 unfoldable pub fitting : Shape → State → Verdict
-fitting s T = failing (not (allowed s)) ShapeNotAllowed (failing (not (lengths s T)) WrongLength Passed)
+fitting s T = failing (not (allowed s)) ShapeNotAllowed (failing (not (lengths s T)) WrongLength (Ok tt))
 
 -- and every call but build behind them: refusal 3
 unfoldable pub verdict : Shape → State → Verdict
-verdict s T = through Failed (fitting s T) (failing (not (valid s T)) NotValid Passed)
+verdict s T = through Err (fitting s T) (failing (not (valid s T)) NotValid (Ok tt))
 
 -- tables that are refused give the refusal; on the others the call goes on
 abbrev pub checked : {A : Type 0} → (Refusal → A) → Shape → State → A → A
@@ -40,7 +41,7 @@ checked refused s T rest = through refused (verdict s T) rest
 
 -- a step that is refused alters nothing
 abbrev pub refused : State → Refusal → Outcome
-refused T r = outcome (Refused r) T
+refused T r = outcome (Err r) T
 
 abbrev pub refuse : Bool → Refusal → State → Outcome → Outcome
 refuse true r T rest = refused T r
@@ -49,7 +50,7 @@ refuse false r T rest = rest
 -- refusals 4 and 5: the thread is a thread of the shape, and runs
 unfoldable pub running : Shape → Device → ℕ → Verdict
 running s d t =
-    failing (not (ltb t s.threads)) NoThread (failing (not (eqb d.running (t + 1))) NotRunning Passed)
+    failing (not (ltb t s.threads)) NoThread (failing (not (eqb d.running (t + 1))) NotRunning (Ok tt))
 
 abbrev pub by_running : Shape → State → ℕ → Outcome → Outcome
 by_running s T t rest = through (refused T) (running s T.threads.device t) rest
@@ -68,7 +69,7 @@ unfoldable pub held_by : Shape → List ℕ → List ℕ → ℕ → ℕ → Ver
 held_by s states owners t i =
     failing (id_outside s i) IdOutside
     (failing (not (eqb (state_at s states (id_level i) (id_block i)) ALLOCATED)) NotAllocated
-    (failing (not (eqb (get_or owners (place s (id_level i) (id_block i)) 0) (t + 1))) NotOwner Passed))
+    (failing (not (eqb (get_or owners (place s (id_level i) (id_block i)) 0) (t + 1))) NotOwner (Ok tt)))
 
 abbrev pub of_held : Shape → State → ℕ → ℕ → Outcome → Outcome
 of_held s T t i rest = through (refused T) (held_by s T.pool.states T.pool.owners t i) rest

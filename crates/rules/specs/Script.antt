@@ -1,13 +1,11 @@
 -- Document 01, 'Script and listing': the records of a script.
 -- Assumes nothing.
-use Rattle.std.specs.Prelude.{Bool, not, cond, ◌&&◌, List, ℕ, ◌+◌, ◌-◌, ℤ, pos, negsuc, length, get_or, take, drop, leb, ltb, eqb}
+use Rattle.std.specs.Prelude.{Some, None, Option, Bool, not, cond, ◌&&◌, List, ℕ, ◌+◌, ◌-◌, ℤ, pos, negsuc, length, get_or, take, drop, leb, ltb, eqb}
 use Rattle.laws.specs.Digits.{little}
 use Rattle.shape.specs.declared.time.Millis.{Millis}
 use Rattle.rules.specs.declared.script.Record.TheVariants.{Pool, Ask, ShortAsk, GoOn, Give, Switch, Tick, Whole}
-use Rattle.rules.specs.declared.script.Decoded.{Decoded}
-use Rattle.rules.specs.declared.script.Decoded.TheVariants.{Good, Bad}
-use Rattle.rules.specs.declared.script.Read.{Read}
 use Rattle.rules.specs.Numbers.{SHAPE-TAG, ASK-TAG, GO-ON-TAG, GIVE-TAG, SWITCH-TAG, TICK-TAG, WHOLE-TAG}
+use Rattle.rules.specs.declared.script.Record.{Record}
 
 -- the n bytes from a place on, and the number that they hold, little-endian
 abbrev pub field_at : List ℕ → ℕ → ℕ → List ℕ
@@ -25,10 +23,10 @@ abbrev pub short_wait : Millis
 short_wait = record { 0 = negsuc 0 }
 
 -- a record by its tag and the length of its value; other tags and lengths are bad
-unfoldable pub decode : ℕ → List ℕ → Decoded
+unfoldable pub decode : ℕ → List ℕ → Option Record
 decode tag value =
     cond (eqb tag SHAPE-TAG && eqb (length value) 8)
-    (Good (Pool (record {
+    (Some (Pool (record {
       pool = number_at value 0 1;
       threads = number_at value 1 1;
       levels = number_at value 2 1;
@@ -36,13 +34,13 @@ decode tag value =
       top_size = number_at value 4 4;
     })))
     (cond (eqb tag ASK-TAG && eqb (length value) 9)
-    (Good (Ask (number_at value 0 1) (number_at value 1 4) (record { 0 = signed (number_at value 5 4) })))
-    (cond (eqb tag ASK-TAG && eqb (length value) 5) (Good (ShortAsk (number_at value 0 1) (number_at value 1 4)))
-    (cond (eqb tag GO-ON-TAG && eqb (length value) 1) (Good (GoOn (number_at value 0 1)))
-    (cond (eqb tag GIVE-TAG && eqb (length value) 5) (Good (Give (number_at value 0 1) (number_at value 1 4)))
-    (cond (eqb tag SWITCH-TAG && eqb (length value) 1) (Good (Switch (number_at value 0 1)))
-    (cond (eqb tag TICK-TAG && eqb (length value) 0) (Good Tick)
-    (cond (eqb tag WHOLE-TAG && eqb (length value) 0) (Good Whole) Bad)))))))
+    (Some (Ask (number_at value 0 1) (number_at value 1 4) (record { 0 = signed (number_at value 5 4) })))
+    (cond (eqb tag ASK-TAG && eqb (length value) 5) (Some (ShortAsk (number_at value 0 1) (number_at value 1 4)))
+    (cond (eqb tag GO-ON-TAG && eqb (length value) 1) (Some (GoOn (number_at value 0 1)))
+    (cond (eqb tag GIVE-TAG && eqb (length value) 5) (Some (Give (number_at value 0 1) (number_at value 1 4)))
+    (cond (eqb tag SWITCH-TAG && eqb (length value) 1) (Some (Switch (number_at value 0 1)))
+    (cond (eqb tag TICK-TAG && eqb (length value) 0) (Some Tick)
+    (cond (eqb tag WHOLE-TAG && eqb (length value) 0) (Some Whole) None)))))))
 
 -- a record: a one-byte tag, a two-byte length, the value
 abbrev pub tag_at : List ℕ → ℕ → ℕ
@@ -63,11 +61,11 @@ unfoldable pub placed : List ℕ → ℕ → Bool
 placed xs at = cond (eqb at 0) (eqb (tag_at xs at) SHAPE-TAG) (not (eqb (tag_at xs at) SHAPE-TAG))
 
 -- a good record, and where the next one starts
-abbrev pub found : Decoded → ℕ → Read
-found (Good r) next = Read.Record r next
-found Bad next = Read.Bad
+abbrev pub found : Option Record → ℕ → Option (Record × ℕ)
+found (Some r) next = Some (r, next)
+found None next = None
 
 -- what stands at an offset of a script
-unfoldable pub read_at : List ℕ → ℕ → Read
+unfoldable pub read_at : List ℕ → ℕ → Option (Record × ℕ)
 read_at xs at =
-    cond (uncut xs at && placed xs at) (found (decode (tag_at xs at) (value_at xs at)) (at + 3 + length_at xs at)) Read.Bad
+    cond (uncut xs at && placed xs at) (found (decode (tag_at xs at) (value_at xs at)) (at + 3 + length_at xs at)) None

@@ -1,6 +1,6 @@
 -- Document 01, 'Calls and steps': each step of a thread whose call is open, on valid tables.
 -- Assumes nothing.
-use Rattle.std.specs.Prelude.{Bool, not, cond, ◌&&◌, ◌||◌, List, [], ◌∷◌, ◌++◌, ℕ, zero, suc, ◌+◌, ◌*◌, ◌-◌, ◌/◌, length, get_or, set, replicate, ltb, eqb}
+use Rattle.std.specs.Prelude.{Ok, Err, Some, None, Option, Bool, not, cond, ◌&&◌, ◌||◌, List, [], ◌∷◌, ◌++◌, ℕ, zero, suc, ◌+◌, ◌*◌, ◌-◌, ◌/◌, length, get_or, set, replicate, ltb, eqb}
 use Rattle.std.proofs.lemmas.List.Edits.{sets}
 use Rattle.laws.specs.Tests.{every}
 use Rattle.laws.specs.Lists.{keep, up_from}
@@ -8,20 +8,18 @@ use Rattle.shape.specs.declared.Shape.{Shape}
 use Rattle.shape.specs.Limits.{parts}
 use Rattle.shape.specs.Blocks.{place, id, level_for}
 use Rattle.rules.specs.declared.Call.{Call}
-use Rattle.rules.specs.declared.Room.{Room}
-use Rattle.rules.specs.declared.Room.TheVariants.{At, Nowhere}
 use Rattle.rules.specs.declared.Refusal.TheVariants.{NoRoom, TimedOut}
-use Rattle.rules.specs.declared.Answer.{Answer}
-use Rattle.rules.specs.declared.Answer.TheVariants.{Refused, Found, Again, Taken, Split, Granted, Waiting, Merged, Settled}
+use Rattle.rules.specs.declared.Answer.TheVariants.{Found, Again, Taken, Split, Granted, Waiting, Merged, Settled}
 use Rattle.rules.specs.Numbers.{ALLOCATED, FREE, DIVIDED, NOEXIST, FREEING, ALLOCATING, CLOSED, ASKED, FOUND, DIVIDING, RELEASING, WAITING, NEVER, TIMED, CELLS}
 use Rattle.rules.specs.Tables.{Pool, Threads, State, pool, threads, lent, state_at, free_list, put_list, queue_of, put_queue, put_call}
+use Rattle.rules.specs.Answers.{Answered}
 
 -- an answer, and the tables and the record as the step leaves them
 pub record Outcome : Type 0 where
-  pub answer : Answer
+  pub answer : Answered
   pub after : State
 
-abbrev pub outcome : Answer → State → Outcome
+abbrev pub outcome : Answered → State → Outcome
 outcome a T = record { answer = a; after = T }
 
 -- a call that is not open
@@ -61,25 +59,25 @@ abbrev pub wake_all : Shape → Threads → Threads
 wake_all s W = threads (wake W.calls (queue_of W.queue)) (put_queue s.threads []) W.device
 
 -- the deepest level from l upward with a FREE block
-unfoldable pub deepest : List ℕ → ℕ → Room
-deepest lists zero = cond (ltb 0 (get_or lists 0 0)) (At 0) Nowhere
-deepest lists (suc l) = cond (ltb 0 (get_or lists (suc l) 0)) (At (suc l)) (deepest lists l)
+unfoldable pub deepest : List ℕ → ℕ → Option ℕ
+deepest lists zero = cond (ltb 0 (get_or lists 0 0)) (Some 0) None
+deepest lists (suc l) = cond (ltb 0 (get_or lists (suc l) 0)) (Some (suc l)) (deepest lists l)
 
 -- no level has room: a no-wait call ends; a timed call with the clock at its deadline ends; any other joins the queue's end, blocked, and nobody runs
 unfoldable pub no_room : Shape → State → ℕ → Call → Outcome
 no_room s T t c =
-    cond (eqb c.wait NEVER) (outcome (Refused NoRoom) (only_call T t closed))
-    (cond (eqb c.wait TIMED && eqb c.deadline T.threads.device.clock) (outcome (Refused TimedOut) (only_call T t closed))
-    (outcome Waiting (lent T.pool (blocked s T.threads t c))))
+    cond (eqb c.wait NEVER) (outcome (Err NoRoom) (only_call T t closed))
+    (cond (eqb c.wait TIMED && eqb c.deadline T.threads.device.clock) (outcome (Err TimedOut) (only_call T t closed))
+    (outcome (Ok Waiting) (lent T.pool (blocked s T.threads t c))))
 
-unfoldable pub look_at : Shape → State → ℕ → Call → Room → Outcome
-look_at s T t c (At l) = outcome (Found l) (only_call T t (moved c FOUND l))
-look_at s T t c Nowhere = no_room s T t c
+unfoldable pub look_at : Shape → State → ℕ → Call → Option ℕ → Outcome
+look_at s T t c (Some l) = outcome (Ok (Found l)) (only_call T t (moved c FOUND l))
+look_at s T t c None = no_room s T t c
 
 -- asked: a timed call with the clock above its deadline ends; otherwise the deepest level with room is found
 unfoldable pub look : Shape → State → ℕ → Call → Outcome
 look s T t c =
-    cond (eqb c.wait TIMED && ltb c.deadline T.threads.device.clock) (outcome (Refused TimedOut) (only_call T t closed))
+    cond (eqb c.wait TIMED && ltb c.deadline T.threads.device.clock) (outcome (Err TimedOut) (only_call T t closed))
     (look_at s T t c (deepest T.pool.lists (level_for s c.size)))
 
 -- block b leaves the front of its level's list and becomes ALLOCATING; bs is the rest of the list
@@ -87,9 +85,9 @@ abbrev pub take_pool : Shape → Pool → ℕ → ℕ → List ℕ → Pool
 take_pool s P l b bs = pool (set P.states (place s l b) ALLOCATING) P.owners (put_list s P.lists l bs)
 
 unfoldable pub take_from : Shape → State → ℕ → Call → List ℕ → Outcome
-take_from s T t c [] = outcome Again (only_call T t (moved c ASKED 0))
+take_from s T t c [] = outcome (Ok Again) (only_call T t (moved c ASKED 0))
 take_from s T t c (b ∷ bs) =
-    outcome (Taken (id s c.level b))
+    outcome (Ok (Taken (id s c.level b)))
     (lent (take_pool s T.pool c.level b bs) (with_call T.threads t (holding DIVIDING c.size c.level b)))
 
 -- found: the first of that level's list becomes ALLOCATING and the call dividing; if the list has emptied, the call is asked again
@@ -107,7 +105,7 @@ split_pool s P l b =
 -- dividing above its target: the block is split, its first part in hand
 unfoldable pub split_step : Shape → State → ℕ → Call → Outcome
 split_step s T t c =
-    outcome (Split (id s (c.level + 1) (parts s * c.block)))
+    outcome (Ok (Split (id s (c.level + 1) (parts s * c.block))))
     (lent (split_pool s T.pool c.level c.block)
     (with_call T.threads t (holding DIVIDING c.size (c.level + 1) (parts s * c.block))))
 
@@ -119,7 +117,7 @@ grant_pool s P t l b =
 -- at its target: the block is the thread's, call closed, granted
 unfoldable pub grant_step : Shape → State → ℕ → Call → Outcome
 grant_step s T t c =
-    outcome (Granted (id s c.level c.block))
+    outcome (Ok (Granted (id s c.level c.block)))
     (lent (grant_pool s T.pool t c.level c.block) (with_call T.threads t closed))
 
 unfoldable pub divide_step : Shape → State → ℕ → Call → Outcome
@@ -146,7 +144,7 @@ merge_pool s P l b =
 -- merge: the parent is in hand
 unfoldable pub merge_step : Shape → State → ℕ → Call → Outcome
 merge_step s T t c =
-    outcome (Merged (id s (c.level - 1) (c.block / parts s)))
+    outcome (Ok (Merged (id s (c.level - 1) (c.block / parts s))))
     (lent (merge_pool s T.pool c.level c.block)
     (with_call T.threads t (holding RELEASING 0 (c.level - 1) (c.block / parts s))))
 
@@ -158,7 +156,7 @@ settle_pool s P l b =
 -- settle: call closed, every waiting thread ready and asked, the queue empty
 unfoldable pub settle_step : Shape → State → ℕ → Call → Outcome
 settle_step s T t c =
-    outcome (Settled (length (queue_of T.threads.queue)))
+    outcome (Ok (Settled (length (queue_of T.threads.queue))))
     (lent (settle_pool s T.pool c.level c.block) (wake_all s (with_call T.threads t closed)))
 
 unfoldable pub release_step : Shape → State → ℕ → Call → Outcome

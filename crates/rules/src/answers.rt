@@ -1,4 +1,4 @@
-// The number and the detail that the paper gives to each answer.
+// The number and the detail that the paper gives to each answer. Functions and no From: an answer has both, and each is a number.
 ghost use Rattle.std.specs.Prelude.{◌≡◌};
 ghost use Rattle.rules.specs.Answers.{refusal_number, refusal_detail, number, detail};
 
@@ -37,69 +37,42 @@ pub fn refusal_detail(refusal: Refusal) -> usize
 {
     match refusal {
         Refusal::BadRecord(at) => at,
-        Refusal::ShapeNotAllowed => 0,
-        Refusal::WrongLength => 0,
-        Refusal::NotValid => 0,
-        Refusal::NoThread => 0,
-        Refusal::NotRunning => 0,
-        Refusal::IsBlocked => 0,
-        Refusal::CallOpen => 0,
-        Refusal::NoCall => 0,
-        Refusal::SizeAboveTop => 0,
-        Refusal::WaitOutside => 0,
-        Refusal::IdOutside => 0,
-        Refusal::NotAllocated => 0,
-        Refusal::NotOwner => 0,
-        Refusal::NoRoom => 0,
-        Refusal::TimedOut => 0,
-        Refusal::ClockAtEnd => 0,
-        Refusal::OffsetOutside => 0,
-        Refusal::RowTooShort => 0,
+        _ => 0,
     }
 }
 
-// An answer's number in the listing.
-pub fn number(answer: Answer) -> usize
-    ensures { result ≡ number answer }
+// An answer's number in the listing: that of the answer, or of the refusal.
+pub fn number(answered: Result<Answer, Refusal>) -> usize
+    ensures { result ≡ number answered }
 {
-    match answer {
-        Answer::Refused(refusal) => refusal_number(refusal),
-        Answer::Opened => 40,
-        Answer::Found(_) => 41,
-        Answer::Again => 42,
-        Answer::Taken(_) => 43,
-        Answer::Split(_) => 44,
-        Answer::Granted(_) => 45,
-        Answer::Waiting => 46,
-        Answer::Merged(_) => 47,
-        Answer::Settled(_) => 48,
-        Answer::Switched => 49,
-        Answer::Ticked(_) => 50,
-        Answer::Whole => 51,
-        Answer::NotWhole => 52,
-        Answer::Built => 53,
+    match answered {
+        Err(refusal) => refusal_number(refusal),
+        Ok(Answer::Opened) => 40,
+        Ok(Answer::Found(_)) => 41,
+        Ok(Answer::Again) => 42,
+        Ok(Answer::Taken(_)) => 43,
+        Ok(Answer::Split(_)) => 44,
+        Ok(Answer::Granted(_)) => 45,
+        Ok(Answer::Waiting) => 46,
+        Ok(Answer::Merged(_)) => 47,
+        Ok(Answer::Settled(_)) => 48,
+        Ok(Answer::Switched) => 49,
+        Ok(Answer::Ticked(_)) => 50,
+        Ok(Answer::Whole) => 51,
+        Ok(Answer::NotWhole) => 52,
+        Ok(Answer::Built) => 53,
     }
 }
 
 // An answer's detail in the listing: a level, an id, a number of threads woken or an offset, else 0.
-pub fn detail(answer: Answer) -> usize
-    ensures { result ≡ detail answer }
+pub fn detail(answered: Result<Answer, Refusal>) -> usize
+    ensures { result ≡ detail answered }
 {
-    match answer {
-        Answer::Refused(refusal) => refusal_detail(refusal),
-        Answer::Found(level) => level,
-        Answer::Taken(id) => id,
-        Answer::Split(id) => id,
-        Answer::Granted(id) => id,
-        Answer::Merged(id) => id,
-        Answer::Settled(woken) => woken,
-        Answer::Ticked(woken) => woken,
-        Answer::Opened => 0,
-        Answer::Again => 0,
-        Answer::Waiting => 0,
-        Answer::Switched => 0,
-        Answer::Whole => 0,
-        Answer::NotWhole => 0,
-        Answer::Built => 0,
+    match answered {
+        Err(refusal) => refusal_detail(refusal),
+        Ok(Answer::Found(level)) => level,
+        Ok(Answer::Taken(id) | Answer::Split(id) | Answer::Granted(id) | Answer::Merged(id)) => id,
+        Ok(Answer::Settled(woken) | Answer::Ticked(woken)) => woken,
+        Ok(_) => 0,
     }
 }

@@ -6,7 +6,7 @@ use crate::CELLS;
 use shape::Shape;
 
 #[repr(C)]
-#[derive(Clone, Copy)]
+#[derive(Clone, Copy, Debug, PartialEq, Eq)]
 pub struct Lengths {
     pub states: usize,
     pub owners: usize,

@@ -8,6 +8,7 @@ pub mod script;
 ghost use Rattle.std.specs.Prelude.{◌≡◌};
 ghost use Rattle.rules.specs.Steps.{closed, holding, moved};
 
+// The states of a block. Numbers and no enum: a byte of the table that C lends may hold any, and validity tells which are states.
 pub const ALLOCATED: u8 = 0;
 
 pub const FREE: u8 = 1;
@@ -20,7 +21,7 @@ pub const FREEING: u8 = 4;
 
 pub const ALLOCATING: u8 = 5;
 
-// The stages of a call.
+// The stages of a call. Numbers and no enum: a cell of the table that C lends may hold any, and validity tells which are stages.
 pub const CLOSED: usize = 0;
 
 pub const ASKED: usize = 1;
@@ -33,7 +34,7 @@ pub const RELEASING: usize = 4;
 
 pub const WAITING: usize = 5;
 
-// The kinds of wait.
+// The kinds of wait. Numbers, as the stages are.
 pub const NEVER: usize = 0;
 
 pub const FOREVER: usize = 1;
@@ -46,16 +47,16 @@ pub const CELLS: usize = 6;
 // The clock runs from 0 to here.
 pub const CLOCK_END: u32 = 4294967295;
 
-// The clock, and who runs: 0 for nobody, t + 1 for thread t.
+// The clock, and who runs: 0 for nobody, t + 1 for thread t. A number and no Option: C lends the record.
 #[repr(C)]
-#[derive(Clone, Copy)]
+#[derive(Clone, Copy, Debug, PartialEq, Eq)]
 pub struct Device {
     pub clock: u32,
     pub running: u32,
 }
 
-// A thread's call. The level is the found level, or the level of the block in hand.
-#[derive(Clone, Copy)]
+// A thread's call as its cells hold it, which C lends. The level is the found level, or the level of the block in hand.
+#[derive(Clone, Copy, Debug, PartialEq, Eq)]
 pub struct Call {
     pub stage: usize,
     pub size: usize,
@@ -87,10 +88,9 @@ impl Call {
         Call {
             stage,
             size,
-            wait: 0,
-            deadline: 0,
             level,
             block,
+            ..Call::closed()
         }
     }
 
@@ -100,24 +100,14 @@ impl Call {
     {
         Call {
             stage,
-            size: self.size,
-            wait: self.wait,
-            deadline: self.deadline,
             level,
-            block: self.block,
+            ..self
         }
     }
 }
 
-// The deepest level with room.
-#[derive(Clone, Copy)]
-pub enum Room {
-    At(usize),
-    Nowhere,
-}
-
 // Why a call is refused, in the order in which refusals are tried.
-#[derive(Clone, Copy)]
+#[derive(Clone, Copy, Debug, PartialEq, Eq)]
 pub enum Refusal {
     ShapeNotAllowed,
     WrongLength,
@@ -140,10 +130,9 @@ pub enum Refusal {
     RowTooShort,
 }
 
-// What a step answers.
-#[derive(Clone, Copy)]
+// What a call answers that is not refused.
+#[derive(Clone, Copy, Debug, PartialEq, Eq)]
 pub enum Answer {
-    Refused(Refusal),
     Opened,
     Found(usize),
     Again,
@@ -160,30 +149,9 @@ pub enum Answer {
     Built,
 }
 
-// What cover answers: the undivided existing block over an offset.
-#[derive(Clone, Copy)]
-pub enum Covered {
-    Refused(Refusal),
-    Block { id: usize, state: u8 },
-}
-
-// What map answers: how many blocks it listed.
-#[derive(Clone, Copy)]
-pub enum Mapped {
-    Refused(Refusal),
-    Blocks(usize),
-}
-
-// A step's answer, and the record as it leaves it.
-#[derive(Clone, Copy)]
-pub struct Ran {
-    pub answer: Answer,
-    pub device: Device,
-}
-
-// Whether a check lets a call go on.
-#[derive(Clone, Copy)]
-pub enum Verdict {
-    Passed,
-    Failed(Refusal),
+// What cover answers: the undivided existing block over an offset, with the number of its state as the table holds it.
+#[derive(Clone, Copy, Debug, PartialEq, Eq)]
+pub struct Covered {
+    pub id: usize,
+    pub state: u8,
 }

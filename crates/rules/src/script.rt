@@ -3,7 +3,7 @@ use shape::Shape;
 use shape::time::Millis;
 
 // A record in the form in which it stood: an ask with its wait, or without one.
-#[derive(Clone, Copy)]
+#[derive(Clone, Copy, Debug, PartialEq, Eq)]
 pub enum Record {
     Pool(Shape),
     Ask {
@@ -25,20 +25,7 @@ pub enum Record {
     Whole,
 }
 
-// What a tag and a value say.
-#[derive(Clone, Copy)]
-pub enum Decoded {
-    Good(Record),
-    Bad,
-}
-
-// What reading at an offset finds: a record and where the next one starts.
-#[derive(Clone, Copy)]
-pub enum Read {
-    Record(Record, usize),
-    Bad,
-}
-
+// The tags of records. Numbers and no enum: a script's byte may be any, and the papers name the `match` on it.
 pub const SHAPE_TAG: u8 = 1;
 
 pub const ASK_TAG: u8 = 2;

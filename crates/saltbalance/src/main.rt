@@ -9,16 +9,16 @@ use std::io;
 use std::io::{Read, Write};
 
 // Reads until the buffer is full or the input ends, and answers how many bytes were read.
+// By hand: std's `read_exact` fails where the input ends early, and its `read_to_end` needs a heap.
 fn read_full<R: Read>(input: &mut R, buffer: &mut [u8]) -> io::Result<usize>
     ensures { IfOk result (λ n. n ≤ length buffer.new) }
 {
     let mut n = 0;
     while n < buffer.len() {
-        let count = input.read(&mut buffer[n..])?;
-        if count == 0 {
-            break;
+        match input.read(&mut buffer[n..])? {
+            0 => break,
+            count => n += count,
         }
-        n += count;
     }
     Ok(n)
 }

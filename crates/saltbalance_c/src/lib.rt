@@ -1,4 +1,4 @@
-// The pool for C: the calls of crate `pool`, each with its answer in numbers. The header is include/saltbalance.h.
+// The pool for C: the calls of crate `pool`, each with what C passes and with its answer in numbers. The header is include/saltbalance.h.
 #![tactic(auto)]
 
 pub mod said;
@@ -36,7 +36,7 @@ pub extern "C" fn saltbalance_build(
 ) -> Said
     ensures { told result (state states.new owners.new lists.new calls.new queue.new d.new) ≡ tell (build s (state states.old owners.old lists.old calls.old queue.old d.old)) }
 {
-    said::say(pool::build(d, s, states, owners, lists, calls, queue))
+    pool::build(d, s, states, owners, lists, calls, queue).into()
 }
 
 // Ask: thread t asks for a block of at least this size, and says how long it would wait.
@@ -55,7 +55,7 @@ pub extern "C" fn saltbalance_ask(
 ) -> Said
     ensures { told result (state states.now owners.now lists.now calls.new queue.now d) ≡ tell (ask s (state states.now owners.now lists.now calls.old queue.now d) t size (millis wait)) }
 {
-    said::say(pool::ask(
+    pool::ask(
         d,
         s,
         states,
@@ -66,7 +66,8 @@ pub extern "C" fn saltbalance_ask(
         t,
         size,
         Millis(wait),
-    ))
+    )
+    .into()
 }
 
 // Go on: thread t's call makes its next step.
@@ -83,7 +84,7 @@ pub extern "C" fn saltbalance_go_on(
 ) -> Said
     ensures { told result (state states.new owners.new lists.new calls.new queue.new d.new) ≡ tell (go_on s (state states.old owners.old lists.old calls.old queue.old d.old) t) }
 {
-    said::say(pool::go_on(d, s, states, owners, lists, calls, queue, t))
+    pool::go_on(d, s, states, owners, lists, calls, queue, t).into()
 }
 
 // Give back: thread t gives back the block with this id.
@@ -101,7 +102,7 @@ pub extern "C" fn saltbalance_give_back(
 ) -> Said
     ensures { told result (state states.new owners.new lists.now calls.new queue.now d) ≡ tell (give s (state states.old owners.old lists.now calls.old queue.now d) t id) }
 {
-    said::say(pool::give_back(d, s, states, owners, lists, calls, queue, t, id))
+    pool::give_back(d, s, states, owners, lists, calls, queue, t, id).into()
 }
 
 // Switch: thread t runs.
@@ -118,7 +119,7 @@ pub extern "C" fn saltbalance_switch(
 ) -> Said
     ensures { told result (state states.now owners.now lists.now calls.now queue.now d.new) ≡ tell (switch s (state states.now owners.now lists.now calls.now queue.now d.old) t) }
 {
-    said::say(pool::switch(d, s, states, owners, lists, calls, queue, t))
+    pool::switch(d, s, states, owners, lists, calls, queue, t).into()
 }
 
 // Tick: the clock rises, and who waited until now is ready.
@@ -134,7 +135,7 @@ pub extern "C" fn saltbalance_tick(
 ) -> Said
     ensures { told result (state states.now owners.now lists.now calls.new queue.new d.new) ≡ tell (tick s (state states.now owners.now lists.now calls.old queue.old d.old)) }
 {
-    said::say(pool::tick(d, s, states, owners, lists, calls, queue))
+    pool::tick(d, s, states, owners, lists, calls, queue).into()
 }
 
 // Whole: whether every byte has come home and no call is open.
@@ -150,7 +151,7 @@ pub extern "C" fn saltbalance_whole(
 ) -> Said
     ensures { result ≡ said (whole s (state states.now owners.now lists.now calls.now queue.now d)) }
 {
-    said::say(pool::whole(d, s, states, owners, lists, calls, queue))
+    pool::whole(d, s, states, owners, lists, calls, queue).into()
 }
 
 // Cover: the undivided block over a byte offset, with its state.
@@ -167,7 +168,7 @@ pub extern "C" fn saltbalance_cover(
 ) -> CoveredBlock
     ensures { result ≡ block (cover s (state states.now owners.now lists.now calls.now queue.now d) offset) }
 {
-    said::say_block(pool::cover(d, s, states, owners, lists, calls, queue, offset))
+    pool::cover(d, s, states, owners, lists, calls, queue, offset).into()
 }
 
 // Map: the ids of all undivided blocks by address into the row.
@@ -184,5 +185,5 @@ pub extern "C" fn saltbalance_map(
 ) -> MappedBlocks
     ensures { row_told result row.new ≡ tell_row (map_pool s (state states.now owners.now lists.now calls.now queue.now d) row.old) }
 {
-    said::say_count(pool::map(d, s, states, owners, lists, calls, queue, row))
+    pool::map(d, s, states, owners, lists, calls, queue, row).into()
 }

@@ -7,13 +7,12 @@ use native.Mathlib.Omega.{arith}
 use lib.ListN.{length}
 use lib.Seq.{sets}
 use Rattle.laws.specs.Sets.{Put, put-behind}
-use Rattle.rules.specs.declared.Answer.{Answer}
-use Rattle.rules.specs.Answers.{number, detail}
+use Rattle.rules.specs.Answers.{Answered, number, detail}
 use Rattle.rules.specs.Listing.{line}
 use Rattle.script_lines.specs.Buffer.{LINE-MOST, field, line-fields, Short, fields-short}
 
 pub line-put :
-    (xs : List ℕ) (at n tag : ℕ) (a : Answer) {k d : ℕ} {ys zs us vs : List ℕ} {p q r next : ℕ} → Short n tag k d →
+    (xs : List ℕ) (at n tag : ℕ) (a : Answered) {k d : ℕ} {ys zs us vs : List ℕ} {p q r next : ℕ} → Short n tag k d →
     k ≡ number a → d ≡ detail a → Put xs at (field n 32) p ys → Put ys p (field tag 32) q zs → Put zs q (field k 32) r us →
     Put us r (field d 10) next vs →
     (next ≡ at + length (line n tag a)) × (vs ≡ sets xs at (line n tag a)) × (next ≤ at + LINE-MOST)

@@ -1,15 +1,14 @@
 -- How many bytes a number and a line take at the most.
 -- Assumes nothing.
-use Rattle.std.specs.Prelude.{◌≡◌, List, [], ◌∷◌, ◌++◌, ℕ, zero, suc, ◌+◌, ◌/◌, ◌^◌, ◌≤◌, ◌<◌, length}
+use Rattle.std.specs.Prelude.{Ok, Err, ◌≡◌, List, [], ◌∷◌, ◌++◌, ℕ, zero, suc, ◌+◌, ◌/◌, ◌^◌, ◌≤◌, ◌<◌, length}
 use Rattle.std.proofs.Common.{append_assoc, arith, length-append}
 use Rattle.std.proofs.Math.Nat.{pow-succ'}
 use Rattle.std.proofs.Math.Decide.{dec_lt}
 use Rattle.laws.specs.Digits.{digits, digits-one, digits_more}
 use Rattle.rules.specs.declared.Refusal.{Refusal}
 use Rattle.rules.specs.declared.Refusal.TheVariants.{ShapeNotAllowed, WrongLength, NotValid, NoThread, NotRunning, IsBlocked, CallOpen, NoCall, SizeAboveTop, WaitOutside, IdOutside, NotAllocated, NotOwner, NoRoom, TimedOut, ClockAtEnd, BadRecord, OffsetOutside, RowTooShort}
-use Rattle.rules.specs.declared.Answer.{Answer}
-use Rattle.rules.specs.declared.Answer.TheVariants.{Refused, Opened, Found, Again, Taken, Split, Granted, Waiting, Merged, Settled, Switched, Ticked, Whole, NotWhole, Built}
-use Rattle.rules.specs.Answers.{refusal_number, number, detail}
+use Rattle.rules.specs.declared.Answer.TheVariants.{Opened, Found, Again, Taken, Split, Granted, Waiting, Merged, Settled, Switched, Ticked, Whole, NotWhole, Built}
+use Rattle.rules.specs.Answers.{Answered, refusal_number, number, detail}
 use Rattle.rules.specs.Listing.{line}
 
 -- the most bytes that the line of a record below 100000 takes: 5, 3, 2 and 20 digits, and a byte behind each number
@@ -26,7 +25,7 @@ length-field n behind = length-append (digits n) (behind ∷ [])
 
 -- a line is four fields
 pub line-fields :
-    (n tag : ℕ) (a : Answer) → line n tag a ≡ field n 32 ++ (field tag 32 ++ (field (number a) 32 ++ field (detail a) 10))
+    (n tag : ℕ) (a : Answered) → line n tag a ≡ field n 32 ++ (field tag 32 ++ (field (number a) 32 ++ field (detail a) 10))
 unfolding line field
 line-fields n tag a = simp append_assoc
 
@@ -54,8 +53,8 @@ digits-short (suc k) n h = go (dec_lt n 10) (digits-short k (n / 10))
     go (no d) less = omega (arith, length_more n (omega arith), less (omega (arith, pow-succ' 10 (suc k))))
 
 -- each answer has two digits at the most
-pub number_short : (a : Answer) → number a < 100
-number_short (Refused r) = refusal r
+pub number_short : (a : Answered) → number a < 100
+number_short (Err r) = refusal r
   where
     refusal : (r : Refusal) → refusal_number r < 100
     refusal ShapeNotAllowed = omega arith
@@ -77,20 +76,20 @@ number_short (Refused r) = refusal r
     refusal (BadRecord at) = omega arith
     refusal OffsetOutside = omega arith
     refusal RowTooShort = omega arith
-number_short Opened = omega arith
-number_short (Found l) = omega arith
-number_short Again = omega arith
-number_short (Taken i) = omega arith
-number_short (Split i) = omega arith
-number_short (Granted i) = omega arith
-number_short Waiting = omega arith
-number_short (Merged i) = omega arith
-number_short (Settled n) = omega arith
-number_short Switched = omega arith
-number_short (Ticked n) = omega arith
-number_short Whole = omega arith
-number_short NotWhole = omega arith
-number_short Built = omega arith
+number_short (Ok Opened) = omega arith
+number_short (Ok (Found l)) = omega arith
+number_short (Ok Again) = omega arith
+number_short (Ok (Taken i)) = omega arith
+number_short (Ok (Split i)) = omega arith
+number_short (Ok (Granted i)) = omega arith
+number_short (Ok Waiting) = omega arith
+number_short (Ok (Merged i)) = omega arith
+number_short (Ok (Settled n)) = omega arith
+number_short (Ok Switched) = omega arith
+number_short (Ok (Ticked n)) = omega arith
+number_short (Ok Whole) = omega arith
+number_short (Ok NotWhole) = omega arith
+number_short (Ok Built) = omega arith
 
 -- the digits of a line's numbers, and the line
 pub record Short (n tag answer detail : ℕ) : Type 0 where
@@ -115,5 +114,5 @@ pub fields-short :
 fields-short s = simp (length-append, length-field) (omega arith)
 
 pub line-short :
-    (n tag : ℕ) (a : Answer) → n < 100000 → tag < 256 → detail a < 2 ^ 64 → length (line n tag a) ≤ LINE-MOST
+    (n tag : ℕ) (a : Answered) → n < 100000 → tag < 256 → detail a < 2 ^ 64 → length (line n tag a) ≤ LINE-MOST
 line-short n tag a p q r = rw line-fields (fields-short (numbers-short n tag (number a) (detail a) p q (number_short a) r))

@@ -7,7 +7,7 @@ ghost use Rattle.laws.specs.Digits.{digits};
 ghost use Rattle.rules.specs.Listing.{line, header};
 ghost use Rattle.script_lines.specs.Buffer.{LINE-MOST, field};
 
-use rules::Answer;
+use rules::{Answer, Refusal};
 
 // The most bytes that a line takes.
 pub const LINE_MOST: usize = 34;
@@ -16,29 +16,21 @@ pub const LINE_MOST: usize = 34;
 fn digit_count(n: usize) -> usize
     ensures { result ≡ length (digits n) }
 {
-    let mut rest = n;
-    let mut count = 1;
-    while 10 <= rest {
-        rest = rest / 10;
-        count += 1;
-    }
-    count
+    n.max(1).ilog10() as usize + 1
 }
 
 // Writes the decimal digits of a number from a place on, the last one first, and answers the place behind them.
+// By hand: the contract of `write!` says neither that it succeeds nor what stands in the buffer where it fails.
 pub fn put_number(out: &mut [u8], at: usize, n: usize) -> usize
     requires { at + length (digits n) ≤ length out.old }
     ensures { (result ≡ at + length (digits n)) × (out.new ≡ sets out.old at (digits n)) }
 {
     let end = at + digit_count(n);
     let mut rest = n;
-    let mut place = end;
-    while 10 <= rest {
-        place -= 1;
-        out[place] = (48 + rest % 10) as u8;
-        rest = rest / 10;
+    for place in (at..end).rev() {
+        out[place] = b'0' + (rest % 10) as u8;
+        rest /= 10;
     }
-    out[at] = (48 + rest) as u8;
     end
 }
 
@@ -53,12 +45,18 @@ fn put_field(out: &mut [u8], at: usize, n: usize, behind: u8) -> usize
 }
 
 // Writes a record's line from a place on, and answers the place behind it.
-pub fn put_line(out: &mut [u8], at: usize, n: usize, tag: u8, answer: Answer) -> usize
+pub fn put_line(
+    out: &mut [u8],
+    at: usize,
+    n: usize,
+    tag: u8,
+    answered: Result<Answer, Refusal>,
+) -> usize
     requires { (n < 100000) × (at + LINE-MOST ≤ length out.old) }
-    ensures { (result ≡ at + length (line n tag answer)) × (out.new ≡ sets out.old at (line n tag answer)) × (result ≤ at + LINE-MOST) }
+    ensures { (result ≡ at + length (line n tag answered)) × (out.new ≡ sets out.old at (line n tag answered)) × (result ≤ at + LINE-MOST) }
 {
-    let number = rules::answers::number(answer);
-    let detail = rules::answers::detail(answer);
+    let number = rules::answers::number(answered);
+    let detail = rules::answers::detail(answered);
     let at_tag = put_field(out, at, n, b' ');
     let at_answer = put_field(out, at_tag, tag as usize, b' ');
     let at_detail = put_field(out, at_answer, number, b' ');
@@ -71,10 +69,6 @@ pub fn put_header(out: &mut [u8]) -> usize
     ensures { (result ≡ length header) × (out.new ≡ sets out.old 0 header) }
 {
     let bytes = b"n tag answer detail\n";
-    let mut i = 0;
-    while i < bytes.len() {
-        out[i] = bytes[i];
-        i += 1;
-    }
-    i
+    out[..bytes.len()].copy_from_slice(bytes);
+    bytes.len()
 }

@@ -1,39 +1,62 @@
 -- A number of several bytes, byte by byte from the highest down, and how large it is.
 -- Assumes nothing.
-use mathlib.Core.Path.{◌≡◌}
-use mathlib.Core.List.{List}
-use Prim.Native.Nat.{ℕ, zero, suc, ◌+◌, ◌-◌, ◌*◌, ◌^◌, ◌≤◌, ◌<◌}
+use mathlib.Core.Path.{◌≡◌, refl, sym, ap, ◌∙◌}
+use mathlib.Core.List.{List, [], ◌∷◌, ◌++◌}
+use Prim.Native.Nat.{ℕ, suc, ◌+◌, ◌*◌, ◌^◌, ◌≤◌, ◌<◌}
 use native.Mathlib.Nat.{pow-suc, pow-le-pow_right}
 use native.Mathlib.Omega.{arith}
-use lib.ListN.{length, get_or, drop}
-use lib.Seq.{drop-cons}
+use mir.Syntax.{w8}
+use mir.Val.{Fits}
+use lib.ListN.{length, get_or, length-append}
+use Rattle.std.specs.List.{push}
+use lib.Seq.{append_snoc}
+use Rattle.std.proofs.lemmas.List.{append-nil, get_or-append-add}
 use Rattle.laws.specs.Digits.{little}
 
--- one byte more in front
-pub little-down :
-    (xs : List ℕ) (i : ℕ) → 0 < i → i ≤ length xs → little (drop i xs) * 256 + get_or xs (i - 1) 0 ≡ little (drop (i - 1) xs)
+-- bytes hold a number below a power of 256
+below : (xs : List ℕ) → ((i : ℕ) → Fits w8 (get_or xs i 0)) → little xs < 256 ^ length xs
 unfolding little
-little-down xs zero h l = absurd (omega arith)
-little-down xs (suc j) h l =
-    let e : suc j - 1 ≡ j = omega arith in
-    rw (e, drop-cons xs j 0 l) (omega arith)
+below [] h = omega arith
+below (x ∷ xs) h = omega (arith, h 0, below xs (λ i. h (suc i)), pow-suc 256 (length xs))
 
--- n bytes but for the lowest k hold a number below this
-unfoldable pub above : ℕ → ℕ → ℕ
-above n k = 256 ^ (n - k)
+-- the bytes behind those that are left hold this number
+pub record Held (bytes left : List ℕ) (sum : ℕ) : Type 0 where
+  pub behind : List ℕ
+  pub joined : bytes ≡ left ++ behind
+  pub held : sum ≡ little behind
 
-pub above-none : (n : ℕ) → 0 < above n n
-unfolding above
-above-none n =
-    let e : n - n ≡ 0 = omega arith in
-    rw e (omega arith)
+-- at first none
+pub none-held : {bytes left : List ℕ} → left ≡ bytes → Held bytes left 0
+unfolding little
+none-held {bytes} e = record {
+  behind = [];
+  joined = sym e ∙ sym (append-nil _);
+  held = refl;
+}
 
-pub above_more : (n k : ℕ) → 0 < k → k ≤ n → above n (k - 1) ≡ above n k * 256
-unfolding above
-above_more n k h l =
-    let e : n - (k - 1) ≡ suc (n - k) = omega arith in
-    rw (e, pow-suc 256 (n - k))
+-- the last byte that is left goes before them
+pub one-held :
+    {bytes left : List ℕ} {sum : ℕ} (front : List ℕ) (x : ℕ) → Held bytes left sum → left ≡ push front x →
+    Held bytes front (sum * 256 + x)
+unfolding little
+one-held front x f e = record {
+  behind = x ∷ f.behind;
+  joined = f.joined ∙ ap (λ (xs : List ℕ). xs ++ f.behind) e ∙ append_snoc front x f.behind;
+  held = omega (arith, f.held);
+}
 
-pub above_most : (n k m : ℕ) → n ≤ m + k → above n k ≤ 256 ^ m
-unfolding above
-above_most n k m h = pow-le-pow_right (omega arith) (omega arith)
+-- at the end all
+pub all-held : {bytes left : List ℕ} {sum : ℕ} → Held bytes left sum → length left ≡ 0 → sum ≡ little bytes
+all-held {left = []} f e = rw f.joined f.held
+all-held {left = x ∷ xs} f e = absurd (omega arith)
+
+-- four bytes hold a number below 2^32
+pub held-small :
+    {bytes left : List ℕ} {sum : ℕ} → Held bytes left sum → ((i : ℕ) → Fits w8 (get_or bytes i 0)) → length bytes ≤ 4 →
+    sum < 4294967296
+held-small {bytes} {left} f h l =
+    let short : length f.behind ≤ 4 = omega (arith, ap length f.joined, length-append left f.behind) in
+    omega (arith, f.held, below f.behind fits, pow-le-pow_right {n = 256} (omega arith) short)
+  where
+    fits : (i : ℕ) → Fits w8 (get_or f.behind i 0)
+    fits i = rw (← get_or-append-add left f.behind i 0, ← f.joined) (h (length left + i))

@@ -7,13 +7,12 @@ use Prim.Native.Nat.{ℕ, ◌+◌, ◌-◌, ◌≤◌}
 use native.Mathlib.Omega.{arith}
 use lib.ListN.{length, take, drop}
 use lib.Dec.{eqb}
-use Rattle.rules.specs.declared.script.Decoded.{Decoded}
-use Rattle.rules.specs.declared.script.Read.{Read}
+use Rattle.std.specs.Prelude.{Option, Some, None}
 use Rattle.rules.specs.Numbers.{SHAPE-TAG}
 use Rattle.rules.specs.Script.{decode, tag_at, length_at, uncut, placed, found, read_at}
 use Rattle.script_read.specs.declared.fields.Field.{Field}
-use Rattle.script_read.specs.declared.fields.Framed.TheVariants.{Uncut, Cut}
 use Rattle.script_read.specs.Framing.{framed, field_of, uncut-within, framed-field, framed-cut}
+use Rattle.rules.specs.declared.script.Record.{Record}
 
 -- the place as the code tests it: that it is first and that it is a shape are both so or both not
 together : (first shape : Bool) → cond first shape (not shape) ≡ beq first shape
@@ -26,11 +25,11 @@ turned : (b c : Bool) → not b ≡ c → b ≡ not c
 turned true c e = rw (← e)
 turned false c e = rw (← e)
 
-pub cut : (xs : List ℕ) (at : ℕ) → framed xs at ≡ Cut → Read.Bad ≡ read_at xs at
+pub cut : (xs : List ℕ) (at : ℕ) → framed xs at ≡ None → None ≡ read_at xs at
 unfolding read_at
 cut xs at e = rw (framed-cut xs at e)
 
-module _ (xs : List ℕ) (at : ℕ) (f : Field) (e : framed xs at ≡ Uncut f) where
+module _ (xs : List ℕ) (at : ℕ) (f : Field) (e : framed xs at ≡ Some f) where
   is : f ≡ field_of xs at
   is = (framed-field xs at f e).1
 
@@ -43,7 +42,7 @@ module _ (xs : List ℕ) (at : ℕ) (f : Field) (e : framed xs at ≡ Uncut f) w
       together (eqb at 0) (eqb (tag_at xs at) SHAPE-TAG)
       ∙ turned (beq (eqb at 0) (eqb (tag_at xs at) SHAPE-TAG)) c (rw is at h)
 
-  pub misplaced : not (beq (eqb at 0) (eqb f.tag SHAPE-TAG)) ≡ true → Read.Bad ≡ read_at xs at
+  pub misplaced : not (beq (eqb at 0) (eqb f.tag SHAPE-TAG)) ≡ true → None ≡ read_at xs at
   unfolding read_at
   misplaced h = rw (whole, place true h)
 
@@ -53,7 +52,7 @@ module _ (xs : List ℕ) (at : ℕ) (f : Field) (e : framed xs at ≡ Uncut f) w
 
   pub reads :
       not (beq (eqb at 0) (eqb f.tag SHAPE-TAG)) ≡ false → (value : List ℕ) →
-      value ≡ take (f.end - f.start) (drop f.start xs) → (d : Decoded) → d ≡ decode f.tag value →
+      value ≡ take (f.end - f.start) (drop f.start xs) → (d : Option Record) → d ≡ decode f.tag value →
       found d f.end ≡ read_at xs at
   unfolding read_at
   reads h value v d q =

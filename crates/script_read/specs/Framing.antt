@@ -2,21 +2,19 @@
 -- Assumes nothing.
 use Rattle.std.proofs.Math.Path.{◌≡◌, refl}
 use Rattle.std.proofs.Common.{sym, arith, length-take, length-drop}
-use Rattle.std.specs.Prelude.{Bool, List, ℕ, ◌+◌, ◌≤◌, ◌<◌, length, leb}
+use Rattle.std.specs.Prelude.{Bool, Option, Some, None, List, ℕ, ◌+◌, ◌≤◌, ◌<◌, length, leb}
 use Rattle.std.proofs.Math.Bool.{true, false, cond}
 use borrow.Author.Tests.{leb-true, le-leb}
 use Rattle.laws.specs.Tests.{both, fails}
 use Rattle.rules.specs.Script.{tag_at, length_at, value_at, uncut}
 use Rattle.script_read.specs.declared.fields.Field.{Field}
-use Rattle.script_read.specs.declared.fields.Framed.{Framed}
-use Rattle.script_read.specs.declared.fields.Framed.TheVariants.{Uncut, Cut}
 
 -- the field at an offset: its tag, and from where to where its value stands
 abbrev pub field_of : List ℕ → ℕ → Field
 field_of xs at = record { tag = tag_at xs at; start = at + 3; end = at + 3 + length_at xs at }
 
-unfoldable pub framed : List ℕ → ℕ → Framed
-framed xs at = cond (uncut xs at) (Uncut (field_of xs at)) Cut
+unfoldable pub framed : List ℕ → ℕ → Option Field
+framed xs at = cond (uncut xs at) (Some (field_of xs at)) None
 
 module _ (xs : List ℕ) (at : ℕ) where
   -- an uncut field ends within the script, and its value has the length that it says
@@ -41,20 +39,20 @@ module _ (xs : List ℕ) (at : ℕ) where
   past-cut h = sym (fails (uncut xs at) (λ e. omega (arith, uncut-within e)))
 
   -- what was found is the field, uncut
-  pub framed-field : (f : Field) → framed xs at ≡ Uncut f → (uncut xs at ≡ true) × (f ≡ field_of xs at)
+  pub framed-field : (f : Field) → framed xs at ≡ Some f → (uncut xs at ≡ true) × (f ≡ field_of xs at)
   unfolding framed
   framed-field f e = pick (uncut xs at) refl e
     where
       pick :
-          (b : Bool) → uncut xs at ≡ b → cond b (Uncut (field_of xs at)) Cut ≡ Uncut f →
+          (b : Bool) → uncut xs at ≡ b → cond b (Some (field_of xs at)) None ≡ Some f →
           (uncut xs at ≡ true) × (f ≡ field_of xs at)
       pick true u q = (u, cc)
       pick false u q = absurd (let z : ◌≡◌ {A = ℕ} 0 1 = cc in omega arith)
 
-  pub framed-cut : framed xs at ≡ Cut → uncut xs at ≡ false
+  pub framed-cut : framed xs at ≡ None → uncut xs at ≡ false
   unfolding framed
   framed-cut e = pick (uncut xs at) refl e
     where
-      pick : (b : Bool) → uncut xs at ≡ b → cond b (Uncut (field_of xs at)) Cut ≡ Cut → uncut xs at ≡ false
+      pick : (b : Bool) → uncut xs at ≡ b → cond b (Some (field_of xs at)) None ≡ None → uncut xs at ≡ false
       pick true u q = absurd (let z : ◌≡◌ {A = ℕ} 0 1 = cc in omega arith)
       pick false u q = u

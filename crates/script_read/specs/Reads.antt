@@ -1,14 +1,11 @@
 -- What reading at an offset of a script finds: where the next record starts, and that the shape stands first and only there.
 -- Assumes nothing.
-use Rattle.std.proofs.Math.Path.{◌≡◌, refl}
-use Rattle.std.proofs.Common.{sym, ◌∙◌, arith, eqb-true}
+use Rattle.std.proofs.Math.Path.{◌≡◌, refl, ap}
+use Rattle.std.proofs.Common.{Some, None, Option, sym, ◌∙◌, arith, eqb-true}
 use Rattle.std.specs.Prelude.{Bool, not, ◌&&◌, List, ℕ, ◌+◌, ◌≤◌, length, eqb}
 use Rattle.std.proofs.Math.Bool.{true, false, cond}
 use Rattle.laws.specs.Tests.{both}
 use Rattle.rules.specs.declared.script.Record.{Record}
-use Rattle.rules.specs.declared.script.Decoded.{Decoded}
-use Rattle.rules.specs.declared.script.Decoded.TheVariants.{Good, Bad}
-use Rattle.rules.specs.declared.script.Read.{Read}
 use Rattle.rules.specs.Numbers.{SHAPE-TAG}
 use Rattle.rules.specs.Script.{decode, tag_at, length_at, value_at, uncut, placed, found, read_at}
 use Rattle.script_read.specs.Framing.{uncut-within}
@@ -18,7 +15,7 @@ use Rattle.script_read.specs.Forms.{tag_of, is_pool, decode-tag}
 pub record Stands (xs : List ℕ) (at : ℕ) (r : Record) (next : ℕ) : Type 0 where
   pub whole : uncut xs at ≡ true
   pub in_place : placed xs at ≡ true
-  pub decoded : decode (tag_at xs at) (value_at xs at) ≡ Good r
+  pub decoded : decode (tag_at xs at) (value_at xs at) ≡ Some r
   pub behind : next ≡ at + 3 + length_at xs at
 
 -- in its place it is a shape where it is first
@@ -27,21 +24,23 @@ placed-is true shape e = e
 placed-is false true e = sym e
 placed-is false false e = refl
 
-module _ (xs : List ℕ) (at : ℕ) (r : Record) (next : ℕ) (e : read_at xs at ≡ Read.Record r next) where
+module _ (xs : List ℕ) (at : ℕ) (r : Record) (next : ℕ) (e : read_at xs at ≡ Some (r, next)) where
   pub read-stands : Stands xs at r next
   unfolding read_at
   read-stands = pick (uncut xs at && placed xs at) refl (decode (tag_at xs at) (value_at xs at)) refl e
     where
       pick :
-          (b : Bool) → (uncut xs at && placed xs at) ≡ b → (d : Decoded) → decode (tag_at xs at) (value_at xs at) ≡ d →
-          cond b (found d (at + 3 + length_at xs at)) Read.Bad ≡ Read.Record r next → Stands xs at r next
-      pick true t (Good x) s q = record {
-        whole = (both (uncut xs at) (placed xs at) t).0;
-        in_place = (both (uncut xs at) (placed xs at) t).1;
-        decoded = cc;
-        behind = cc;
-      }
-      pick true t Bad s q = absurd (let z : ◌≡◌ {A = ℕ} 0 1 = cc in omega arith)
+          (b : Bool) → (uncut xs at && placed xs at) ≡ b → (d : Option Record) → decode (tag_at xs at) (value_at xs at) ≡ d →
+          cond b (found d (at + 3 + length_at xs at)) None ≡ Some (r, next) → Stands xs at r next
+      pick true t (Some x) s q =
+          let same : (x, at + 3 + length_at xs at) ≡ (r, next) = cc in
+          record {
+            whole = (both (uncut xs at) (placed xs at) t).0;
+            in_place = (both (uncut xs at) (placed xs at) t).1;
+            decoded = s ∙ ap (λ (y : Record × ℕ). Some y.0) same;
+            behind = sym (ap (λ (y : Record × ℕ). y.1) same);
+          }
+      pick true t None s q = absurd (let z : ◌≡◌ {A = ℕ} 0 1 = cc in omega arith)
       pick false t d s q = absurd (let z : ◌≡◌ {A = ℕ} 0 1 = cc in omega arith)
 
   -- the next record starts behind this one, and within the script or at its end
@@ -60,5 +59,5 @@ module _ (xs : List ℕ) (at : ℕ) (r : Record) (next : ℕ) (e : read_at xs at
   pub read-pool : is_pool r ≡ true → at ≡ 0
   read-pool p = eqb-true at 0 (sym read-place ∙ p)
 
-pub read_first : (xs : List ℕ) (r : Record) (next : ℕ) → read_at xs 0 ≡ Read.Record r next → is_pool r ≡ true
+pub read_first : (xs : List ℕ) (r : Record) (next : ℕ) → read_at xs 0 ≡ Some (r, next) → is_pool r ≡ true
 read_first xs r next e = read-place xs 0 r next e

@@ -3,16 +3,15 @@ ghost use Rattle.std.specs.Prelude.{◌≡◌, ◌+◌, ◌<◌, ◌≤◌, leng
 ghost use Rattle.laws.specs.Digits.{little};
 ghost use Rattle.rules.specs.Script.{number_at, signed};
 
-// The number that the bytes hold, from the highest byte down.
+// The number that the bytes hold, from the highest byte down. By hand: `from_le_bytes` takes one length, and fields have one, two or
+// four bytes.
 pub fn number(bytes: &[u8]) -> usize
     requires { length bytes.now ≤ 4 }
     ensures { (result ≡ little bytes.now) × (result < 4294967296) }
 {
     let mut sum = 0;
-    let mut left = bytes.len();
-    while 0 < left {
-        left -= 1;
-        sum = sum * 256 + bytes[left] as usize;
+    for &byte in bytes.iter().rev() {
+        sum = sum * 256 + byte as usize;
     }
     sum
 }
@@ -30,8 +29,5 @@ pub fn signed(number: usize) -> i32
     requires { number < 4294967296 }
     ensures { result ≡ signed number }
 {
-    if number < 2147483648 {
-        return number as i32;
-    }
-    -1 - (4294967295 - number) as i32
+    (number as u32).cast_signed()
 }

@@ -1,12 +1,13 @@
 // What a tag and a value say.
-ghost use Rattle.std.specs.Prelude.{◌≡◌, length};
-ghost use Rattle.rules.specs.declared.script.Decoded.TheVariants.{Good};
+#![tactic(auto, unfolding(rules::specs::Script::decode))]
+
+ghost use Rattle.std.specs.Prelude.{Some, ◌≡◌, length};
 ghost use Rattle.rules.specs.Numbers.{SHAPE-TAG, ASK-TAG, GIVE-TAG};
 ghost use Rattle.rules.specs.Script.{decode};
 
 use crate::numbers::{number_at, signed};
 use rules::script::{
-    ASK_TAG, Decoded, GIVE_TAG, GO_ON_TAG, Record, SHAPE_TAG, SWITCH_TAG, TICK_TAG, WHOLE_TAG,
+    ASK_TAG, GIVE_TAG, GO_ON_TAG, Record, SHAPE_TAG, SWITCH_TAG, TICK_TAG, WHOLE_TAG,
 };
 use shape::Shape;
 use shape::time::Millis;
@@ -14,7 +15,7 @@ use shape::time::Millis;
 // A shape: pool, threads, levels, top blocks, top size in four bytes.
 fn pool_record(value: &[u8]) -> Record
     requires { length value.now ≡ 8 }
-    ensures { Good result ≡ decode SHAPE-TAG value.now }
+    ensures { Some result ≡ decode SHAPE-TAG value.now }
 {
     Record::Pool(Shape {
         pool: number_at(value, 0, 1),
@@ -28,7 +29,7 @@ fn pool_record(value: &[u8]) -> Record
 // An ask with its wait: thread, size in four bytes, signed wait in four.
 fn ask_record(value: &[u8]) -> Record
     requires { length value.now ≡ 9 }
-    ensures { Good result ≡ decode ASK-TAG value.now }
+    ensures { Some result ≡ decode ASK-TAG value.now }
 {
     Record::Ask {
         thread: number_at(value, 0, 1),
@@ -40,7 +41,7 @@ fn ask_record(value: &[u8]) -> Record
 // An ask without a wait: thread, size in four bytes.
 fn short_ask_record(value: &[u8]) -> Record
     requires { length value.now ≡ 5 }
-    ensures { Good result ≡ decode ASK-TAG value.now }
+    ensures { Some result ≡ decode ASK-TAG value.now }
 {
     Record::ShortAsk {
         thread: number_at(value, 0, 1),
@@ -51,7 +52,7 @@ fn short_ask_record(value: &[u8]) -> Record
 // A give: thread, id in four bytes.
 fn give_record(value: &[u8]) -> Record
     requires { length value.now ≡ 5 }
-    ensures { Good result ≡ decode GIVE-TAG value.now }
+    ensures { Some result ≡ decode GIVE-TAG value.now }
 {
     Record::Give {
         thread: number_at(value, 0, 1),
@@ -60,40 +61,40 @@ fn give_record(value: &[u8]) -> Record
 }
 
 // The tag tells the record, and the length whether its value is all of it.
-pub fn decode(tag: u8, value: &[u8]) -> Decoded
+pub fn decode(tag: u8, value: &[u8]) -> Option<Record>
     ensures { result ≡ decode tag value.now }
 {
     let length = value.len();
     match tag {
         SHAPE_TAG => match length {
-            8 => Decoded::Good(pool_record(value)),
-            _ => Decoded::Bad,
+            8 => Some(pool_record(value)),
+            _ => None,
         },
         ASK_TAG => match length {
-            9 => Decoded::Good(ask_record(value)),
-            5 => Decoded::Good(short_ask_record(value)),
-            _ => Decoded::Bad,
+            9 => Some(ask_record(value)),
+            5 => Some(short_ask_record(value)),
+            _ => None,
         },
         GO_ON_TAG => match length {
-            1 => Decoded::Good(Record::GoOn(number_at(value, 0, 1))),
-            _ => Decoded::Bad,
+            1 => Some(Record::GoOn(number_at(value, 0, 1))),
+            _ => None,
         },
         GIVE_TAG => match length {
-            5 => Decoded::Good(give_record(value)),
-            _ => Decoded::Bad,
+            5 => Some(give_record(value)),
+            _ => None,
         },
         SWITCH_TAG => match length {
-            1 => Decoded::Good(Record::Switch(number_at(value, 0, 1))),
-            _ => Decoded::Bad,
+            1 => Some(Record::Switch(number_at(value, 0, 1))),
+            _ => None,
         },
         TICK_TAG => match length {
-            0 => Decoded::Good(Record::Tick),
-            _ => Decoded::Bad,
+            0 => Some(Record::Tick),
+            _ => None,
         },
         WHOLE_TAG => match length {
-            0 => Decoded::Good(Record::Whole),
-            _ => Decoded::Bad,
+            0 => Some(Record::Whole),
+            _ => None,
         },
-        0 | 8..=255 => Decoded::Bad,
+        0 | 8..=255 => None,
     }
 }

@@ -4,43 +4,41 @@
 ghost use Rattle.std.specs.Prelude.{◌≡◌, true};
 ghost use Rattle.rules.specs.Script.{uncut, value_at, read_at};
 
-use rules::script::Read;
+use rules::script::Record;
 use script_read::fields;
 use script_read::numbers::number_at;
 
 // A script that is lent, and a place in it.
-#[derive(Clone, Copy)]
+#[derive(Debug, Clone, Copy, PartialEq, Eq, Hash)]
 pub struct Reader<'a> {
     pub script: &'a [u8],
     pub at: usize,
 }
 
 // A reader at the script's start.
-pub fn new<'a>(script: &'a [u8]) -> Reader<'a>
+pub fn new(script: &[u8]) -> Reader<'_>
     ensures { (result.script ≡ script.entry) × (result.at ≡ 0) }
 {
     Reader { script, at: 0 }
 }
 
 // The same script, at another place.
-pub fn moved<'a>(r: Reader<'a>, at: usize) -> Reader<'a>
+pub fn moved(r: Reader<'_>, at: usize) -> Reader<'_>
     ensures { (result.script ≡ r.entry.script) × (result.at ≡ at) }
 {
-    Reader {
-        script: r.script,
-        at,
-    }
+    Reader { at, ..r }
 }
 
 // What stands at the reader's place: the record, and where the next one starts.
-pub fn next<'a>(r: Reader<'a>) -> Read
+pub fn next(r: Reader<'_>) -> Option<(Record, usize)>
     ensures { result ≡ read_at r.entry.script.now r.entry.at }
 {
     script_read::read_at(r.script, r.at)
 }
 
 // The value of the field at an offset: the part of the script in which it stands.
-pub fn value_at<'a>(script: &'a [u8], at: usize) -> &'a [u8]
+#[tactic(auto, unfolding(rules::specs::Script::uncut))]
+pub fn value_at(script: &[u8], at: usize) -> &[u8]
     requires { uncut script.now at ≡ true }
     ensures { result.now ≡ value_at script.now at }
 {
@@ -50,7 +48,7 @@ pub fn value_at<'a>(script: &'a [u8], at: usize) -> &'a [u8]
 }
 
 // The value of the field at the reader's place.
-pub fn value<'a>(r: Reader<'a>) -> &'a [u8]
+pub fn value(r: Reader<'_>) -> &[u8]
     requires { uncut r.script.now r.at ≡ true }
     ensures { result.now ≡ value_at r.entry.script.now r.entry.at }
 {
@@ -58,7 +56,7 @@ pub fn value<'a>(r: Reader<'a>) -> &'a [u8]
 }
 
 // What a reader finds at a place of a script. Its parameters are plain, so whoever calls it needs no reader.
-pub fn read(script: &[u8], at: usize) -> Read
+pub fn read(script: &[u8], at: usize) -> Option<(Record, usize)>
     ensures { result ≡ read_at script.now at }
 {
     next(moved(new(script), at))

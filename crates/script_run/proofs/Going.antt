@@ -1,5 +1,6 @@
 -- The run as it goes on: what the records behind an offset need, and that with their lines all lines are written.
 -- Assumes nothing.
+use Rattle.std.specs.Prelude.{Err, Some, None}
 use mathlib.Core.Path.{◌≡◌, sym, ◌∙◌, ap}
 use mathlib.Core.Bool.{false}
 use mathlib.Core.List.{List}
@@ -10,10 +11,7 @@ use lib.Seq.{sets, length-sets}
 use Rattle.laws.specs.Tests.{fails}
 use Rattle.shape.specs.declared.Shape.{Shape}
 use Rattle.rules.specs.declared.Refusal.TheVariants.{BadRecord}
-use Rattle.rules.specs.declared.Answer.{Answer}
-use Rattle.rules.specs.declared.Answer.TheVariants.{Refused}
 use Rattle.rules.specs.declared.script.Record.{Record}
-use Rattle.rules.specs.declared.script.Read.{Read}
 use Rattle.rules.specs.Tables.{State}
 use Rattle.facts.specs.Lines.{Sound}
 use Rattle.rules.specs.Steps.{Outcome, outcome}
@@ -25,14 +23,15 @@ use Rattle.script_read.specs.Reads.{read_next, read-pool}
 use Rattle.script_turn.specs.Sounds.{record-sound, record-goes-on}
 use Rattle.script_run.specs.Listed.{Begun, Listed}
 use Rattle.script_run.proofs.Written.{same_shape, listed-none, listed-bad, listed-record}
+use Rattle.rules.specs.Answers.{Answered}
 
 -- a line is stored, and takes no more than its room
-abbrev pub Line : List ℕ → ℕ → ℕ → ℕ → Answer → ℕ → List ℕ → Type 0
+abbrev pub Line : List ℕ → ℕ → ℕ → ℕ → Answered → ℕ → List ℕ → Type 0
 Line out end n tag a next after =
     (next ≡ end + length (line n tag a)) × (after ≡ sets out end (line n tag a)) × (next ≤ end + LINE-MOST)
 
 pub line_same :
-    (out : List ℕ) (end n tag : ℕ) (a : Answer) {next : ℕ} {after : List ℕ} → Line out end n tag a next after →
+    (out : List ℕ) (end n tag : ℕ) (a : Answered) {next : ℕ} {after : List ℕ} → Line out end n tag a next after →
     length after ≡ length out
 line_same out end n tag a p = ap length p.1 ∙ length-sets out end (line n tag a)
 
@@ -55,11 +54,11 @@ module _ {xs : List ℕ} {s : Shape} {from : ℕ} {S : State} {first : List ℕ}
   module _ (h : at < length xs) where
     -- the run ends at a bad record
     pub ends-bad :
-        {after : List ℕ} {last : ℕ} → read_at xs at ≡ Read.Bad →
-        Line out end n (tag_at xs at) (Refused (BadRecord at)) last after → Listed xs 1 from s S first start after last
+        {after : List ℕ} {last : ℕ} → read_at xs at ≡ None →
+        Line out end n (tag_at xs at) (Err (BadRecord at)) last after → Listed xs 1 from s S first start after last
     ends-bad {after} {last} e p = g.rest after last (listed-bad h e (p.0, p.1) (omega (arith, here)))
 
-    module _ {r : Record} {next : ℕ} (e : read_at xs at ≡ Read.Record r next) where
+    module _ {r : Record} {next : ℕ} (e : read_at xs at ≡ Some (r, next)) where
       -- any other is no shape's
       pub no-shape : is_pool r ≡ false
       no-shape = sym (fails (is_pool r) (λ p. omega (arith, read-pool xs at r next e p, here)))
@@ -70,7 +69,7 @@ module _ {xs : List ℕ} {s : Shape} {from : ℕ} {S : State} {first : List ℕ}
 
       -- and there the run goes on
       pub goes_on :
-          {a : Answer} {U : State} {middle : ℕ} {more : List ℕ} → outcome a U ≡ record_step s T r →
+          {a : Answered} {U : State} {middle : ℕ} {more : List ℕ} → outcome a U ≡ record_step s T r →
           Line out end n (tag_at xs at) a middle more → Going xs s from S first start (n + 1) next U more middle
       goes_on {a} o p =
           record {

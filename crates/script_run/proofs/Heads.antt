@@ -1,5 +1,6 @@
 -- The first record of a script: bad, or a shape that is refused, or one that is built and the other records run.
 -- Assumes nothing.
+use Rattle.std.specs.Prelude.{Ok, Err, None}
 use mathlib.Core.Path.{◌≡◌, refl, sym, ap, subst}
 use mathlib.Core.Bool.{true, false, false≢true}
 use mathlib.Core.List.{List}
@@ -8,10 +9,9 @@ use native.Mathlib.Omega.{arith}
 use Rattle.shape.specs.declared.Shape.{Shape}
 use Rattle.shape.specs.Limits.{allowed}
 use Rattle.rules.specs.declared.Refusal.TheVariants.{ShapeNotAllowed, BadRecord}
-use Rattle.rules.specs.declared.Answer.TheVariants.{Refused, Built}
+use Rattle.rules.specs.declared.Answer.TheVariants.{Built}
 use Rattle.rules.specs.declared.script.Record.{Record}
 use Rattle.rules.specs.declared.script.Record.TheVariants.{Pool, Ask, ShortAsk, GoOn, Give, Switch, Tick, Whole}
-use Rattle.rules.specs.declared.script.Read.{Read}
 use Rattle.rules.specs.Tables.{State, fresh}
 use Rattle.rules.specs.Steps.{Outcome, outcome}
 use Rattle.rules.specs.Refusals.{fitting}
@@ -30,11 +30,11 @@ use Rattle.script_run.proofs.Going.{Line, line_same}
 abbrev first : Shape → Outcome
 first s = record_step no_shape (fresh no_shape) (Pool s)
 
-refused : (s : Shape) → allowed s ≡ false → outcome (Refused ShapeNotAllowed) (fresh s) ≡ first s
+refused : (s : Shape) → allowed s ≡ false → outcome (Err ShapeNotAllowed) (fresh s) ≡ first s
 unfolding record_step build fitting
 refused s a = rw a
 
-built : (s : Shape) → allowed s ≡ true → outcome Built (fresh s) ≡ first s
+built : (s : Shape) → allowed s ≡ true → outcome (Ok Built) (fresh s) ≡ first s
 unfolding record_step build fitting
 built s a = rw (a, (fresh-valid s a).lengths)
 
@@ -43,17 +43,17 @@ built-goes-on s a = record { on = ap (λ (x : Outcome). stops x.answer) (sym (bu
 
 module _ {xs out : List ℕ} {end : ℕ} (t : Titled xs out end) where
   pub listed-first :
-      {after : List ℕ} {last : ℕ} → read_at xs 0 ≡ Read.Bad → Line out end 0 (tag_at xs 0) (Refused (BadRecord 0)) last after →
+      {after : List ℕ} {last : ℕ} → read_at xs 0 ≡ None → Line out end 0 (tag_at xs 0) (Err (BadRecord 0)) last after →
       AllListed xs out end after last
   listed-first e p = listed-bad t.some e (p.0, p.1) (omega arith)
 
 module _ {xs : List ℕ} {next : ℕ} {s : Shape} {out : List ℕ} {end : ℕ} (g : Headed xs next s out end) where
   pub listed-refused :
-      {after : List ℕ} {last : ℕ} → allowed s ≡ false → Line out end 0 (tag_at xs 0) (Refused ShapeNotAllowed) last after →
+      {after : List ℕ} {last : ℕ} → allowed s ≡ false → Line out end 0 (tag_at xs 0) (Err ShapeNotAllowed) last after →
       AllListed xs out end after last
   listed-refused a p = listed-stop g.titled.some g.first (refused s a) refl (p.0, p.1) (omega (arith, g.titled.room))
 
-  module _ {T : State} {middle : ℕ} {more : List ℕ} (e : T ≡ fresh s) (a : allowed s ≡ true) (p : Line out end 0 (tag_at xs 0) Built middle more) where
+  module _ {T : State} {middle : ℕ} {more : List ℕ} (e : T ≡ fresh s) (a : allowed s ≡ true) (p : Line out end 0 (tag_at xs 0) (Ok Built) middle more) where
     pub begins : Begun xs 1 next s T more middle
     begins =
         record {
@@ -63,7 +63,7 @@ module _ {xs : List ℕ} {next : ℕ} {s : Shape} {out : List ℕ} {end : ℕ} (
           inside = (read_next xs 0 (Pool s) next g.first).1;
           sound = rw e (fresh-valid s a);
           room = omega (arith, g.titled.room);
-          long = omega (arith, line_same out end 0 (tag_at xs 0) Built p, g.titled.long);
+          long = omega (arith, line_same out end 0 (tag_at xs 0) (Ok Built) p, g.titled.long);
         }
 
     pub listed-built :

@@ -4,10 +4,10 @@ use mathlib.Core.Path.{◌≡◌, refl, ◌∙◌}
 use mathlib.Core.Bool.{true}
 use Prim.Native.Nat.{◌+◌, ◌*◌, ◌≤◌}
 use native.Mathlib.Omega.{arith}
-use lib.ListN.{length, take}
+use lib.ListN.{take}
 use lib.Seq.{length-take-le}
 use Rattle.shape.specs.declared.Shape.{Shape}
-use Rattle.shape.specs.Limits.{allowed, most_blocks}
+use Rattle.shape.specs.Limits.{allowed, most_blocks, most_levels, most_threads}
 use Rattle.shape.specs.Blocks.{blocks}
 use Rattle.shape.specs.Laws.{Limits, limits, blocks-most}
 use Rattle.rules.specs.declared.lengths.Lengths.{Lengths}
@@ -24,17 +24,17 @@ parts l T =
     (take l.queue T.threads.queue)
     T.threads.device
 
--- these are the lengths of the shape's tables, and no longer than the tables
-pub record Fits (s : Shape) (l : Lengths) (T : State) : Type 0 where
-  pub states : (l.states ≡ blocks s) × (l.states ≤ length T.pool.states)
-  pub owners : (l.owners ≡ blocks s) × (l.owners ≤ length T.pool.owners)
-  pub lists : (l.lists ≡ s.levels + blocks s) × (l.lists ≤ length T.pool.lists)
-  pub calls : (l.calls ≡ CELLS * s.threads) × (l.calls ≤ length T.threads.calls)
-  pub queue : (l.queue ≡ s.threads + 1) × (l.queue ≤ length T.threads.queue)
+-- these are the lengths of the shape's tables, and no longer than the largest shape's
+pub record Fits (s : Shape) (l : Lengths) : Type 0 where
+  pub states : (l.states ≡ blocks s) × (l.states ≤ most_blocks)
+  pub owners : (l.owners ≡ blocks s) × (l.owners ≤ most_blocks)
+  pub lists : (l.lists ≡ s.levels + blocks s) × (l.lists ≤ most_levels + most_blocks)
+  pub calls : (l.calls ≡ CELLS * s.threads) × (l.calls ≤ CELLS * most_threads)
+  pub queue : (l.queue ≡ s.threads + 1) × (l.queue ≤ most_threads + 1)
 
-pub fits : {s : Shape} {l : Lengths} {T : State} → allowed s ≡ true → l ≡ table_lengths s → Largest T → Fits s l T
+pub fits : {s : Shape} {l : Lengths} → allowed s ≡ true → l ≡ table_lengths s → Fits s l
 unfolding table_lengths
-fits {s} a e g =
+fits {s} a e =
     let few : blocks s ≤ most_blocks = blocks-most s (limits s a) in
     let small : Limits s = limits s a in
     rw (e, a)
@@ -46,12 +46,12 @@ fits {s} a e g =
       queue = (refl, omega arith);
     })
 
-pub fitting : {s : Shape} {l : Lengths} {T : State} → Fits s l T → LengthFacts s (parts l T)
-fitting {s} {l} {T} f =
+pub fitting : {s : Shape} {l : Lengths} {T : State} → Fits s l → Largest T → LengthFacts s (parts l T)
+fitting {s} {l} {T} f g =
     record {
-      states = length-take-le l.states T.pool.states f.states.1 ∙ f.states.0;
-      owners = length-take-le l.owners T.pool.owners f.owners.1 ∙ f.owners.0;
-      lists = length-take-le l.lists T.pool.lists f.lists.1 ∙ f.lists.0;
-      calls = length-take-le l.calls T.threads.calls f.calls.1 ∙ f.calls.0;
-      queue = length-take-le l.queue T.threads.queue f.queue.1 ∙ f.queue.0;
+      states = length-take-le l.states T.pool.states (omega (arith, f.states.1, g.states)) ∙ f.states.0;
+      owners = length-take-le l.owners T.pool.owners (omega (arith, f.owners.1, g.owners)) ∙ f.owners.0;
+      lists = length-take-le l.lists T.pool.lists (omega (arith, f.lists.1, g.lists)) ∙ f.lists.0;
+      calls = length-take-le l.calls T.threads.calls (omega (arith, f.calls.1, g.calls)) ∙ f.calls.0;
+      queue = length-take-le l.queue T.threads.queue (omega (arith, f.queue.1, g.queue)) ∙ f.queue.0;
     }

@@ -1,5 +1,6 @@
 -- The header and what stands behind it are the listing.
 -- Assumes nothing.
+use Rattle.std.specs.Prelude.{Err}
 use mathlib.Core.Path.{◌≡◌, ap}
 use mathlib.Core.List.{List, ◌++◌}
 use Prim.Native.Nat.{ℕ, ◌≤◌, ◌<◌}
@@ -9,7 +10,6 @@ use lib.Seq.{sets, length-sets}
 use borrow.Author.Tests.{eq-eqb, ne_eqb, lt-ltb, le-ltb}
 use Rattle.laws.specs.Sets.{Put, put-behind}
 use Rattle.rules.specs.declared.Refusal.TheVariants.{BadRecord}
-use Rattle.rules.specs.declared.Answer.TheVariants.{Refused}
 use Rattle.rules.specs.Numbers.{MOST-BYTES}
 use Rattle.rules.specs.Tables.{fresh}
 use Rattle.rules.specs.Listing.{header, line, lines, no_shape, listing}
@@ -29,17 +29,17 @@ module _ (xs out : List ℕ) {headed : List ℕ} {end : ℕ} (l : length out ≡
       rw q (all.1, omega (arith, all.0), omega (arith, ap length all.1, length-sets out 0 (header ++ run)))
 
   pub empty :
-      {last : ℕ} {after : List ℕ} → length xs ≡ 0 → Line headed end 0 0 (Refused (BadRecord 0)) last after →
+      {last : ℕ} {after : List ℕ} → length xs ≡ 0 → Line headed end 0 0 (Err (BadRecord 0)) last after →
       Whole xs out last after
   unfolding listing
-  empty z p = whole (line 0 0 (Refused (BadRecord 0))) (rw (eq-eqb (length xs) 0 z)) (p.0, p.1) (omega arith)
+  empty z p = whole (line 0 0 (Err (BadRecord 0))) (rw (eq-eqb (length xs) 0 z)) (p.0, p.1) (omega arith)
 
   pub too_long :
       {last : ℕ} {after : List ℕ} → MOST-BYTES < length xs →
-      Line headed end 0 0 (Refused (BadRecord MOST-BYTES)) last after → Whole xs out last after
+      Line headed end 0 0 (Err (BadRecord MOST-BYTES)) last after → Whole xs out last after
   unfolding listing
   too_long m p =
-      whole (line 0 0 (Refused (BadRecord MOST-BYTES)))
+      whole (line 0 0 (Err (BadRecord MOST-BYTES)))
       (rw (ne_eqb (length xs) 0 (λ z. omega arith), lt-ltb MOST-BYTES (length xs) m))
       (p.0, p.1)
       (omega arith)

@@ -1,5 +1,6 @@
 -- The lines of a script, record by record: at the script's end, at a bad record, and at a record and those behind it.
 -- Assumes nothing.
+use Rattle.std.specs.Prelude.{Err, Some, None}
 use mathlib.Core.Path.{◌≡◌, refl, sym, ◌∙◌, ap}
 use mathlib.Core.Bool.{true, false, true≢false}
 use mathlib.Core.List.{List, [], ◌++◌, append-nil}
@@ -10,11 +11,8 @@ use borrow.Author.Tests.{le-leb, lt-leb}
 use Rattle.laws.specs.Sets.{Put, put-behind}
 use Rattle.shape.specs.declared.Shape.{Shape}
 use Rattle.rules.specs.declared.Refusal.TheVariants.{BadRecord}
-use Rattle.rules.specs.declared.Answer.{Answer}
-use Rattle.rules.specs.declared.Answer.TheVariants.{Refused}
 use Rattle.rules.specs.declared.script.Record.{Record}
 use Rattle.rules.specs.declared.script.Record.TheVariants.{Pool, Ask, ShortAsk, GoOn, Give, Switch, Tick, Whole}
-use Rattle.rules.specs.declared.script.Read.{Read}
 use Rattle.rules.specs.Tables.{State}
 use Rattle.rules.specs.Steps.{Outcome, outcome}
 use Rattle.rules.specs.Script.{tag_at, read_at}
@@ -23,6 +21,7 @@ use Rattle.script_read.specs.Forms.{is_pool}
 use Rattle.script_read.specs.Reads.{read_next}
 use Rattle.script_turn.specs.GoesOn.{GoesOn}
 use Rattle.script_run.specs.Listed.{LISTING-MOST, Listed}
+use Rattle.rules.specs.Answers.{Answered}
 
 -- no record but a shape's changes the shape
 pub same_shape : (s : Shape) (r : Record) → is_pool r ≡ false → shape_after s r ≡ s
@@ -44,14 +43,14 @@ module _ (xs : List ℕ) (n at : ℕ) (s : Shape) (T : State) where
 
   -- at a bad record there is one
   lines-bad :
-      (most : ℕ) → at < length xs → read_at xs at ≡ Read.Bad →
-      lines (suc most) xs n at s T ≡ line n (tag_at xs at) (Refused (BadRecord at))
+      (most : ℕ) → at < length xs → read_at xs at ≡ None →
+      lines (suc most) xs n at s T ≡ line n (tag_at xs at) (Err (BadRecord at))
   unfolding lines read_lines
   lines-bad most h e = rw (lt-leb (length xs) at h, e)
 
   -- at a record that stops the run too
   lines-stop :
-      (most : ℕ) {r : Record} {next : ℕ} → at < length xs → read_at xs at ≡ Read.Record r next →
+      (most : ℕ) {r : Record} {next : ℕ} → at < length xs → read_at xs at ≡ Some (r, next) →
       stops (record_step s T r).answer ≡ true →
       lines (suc most) xs n at s T ≡ line n (tag_at xs at) (record_step s T r).answer
   unfolding lines read_lines
@@ -59,7 +58,7 @@ module _ (xs : List ℕ) (n at : ℕ) (s : Shape) (T : State) where
 
   -- any other record has its line before those of the records behind it
   lines-record :
-      (most : ℕ) {r : Record} {next : ℕ} → at < length xs → read_at xs at ≡ Read.Record r next →
+      (most : ℕ) {r : Record} {next : ℕ} → at < length xs → read_at xs at ≡ Some (r, next) →
       GoesOn (record_step s T r) →
       lines (suc most) xs n at s T
       ≡ line n (tag_at xs at) (record_step s T r).answer
@@ -77,8 +76,8 @@ module _ {xs : List ℕ} {n at : ℕ} {s : Shape} {T : State} {out : List ℕ} {
 
   module _ (h : at < length xs) where
     pub listed-bad :
-        {after : List ℕ} {last : ℕ} → read_at xs at ≡ Read.Bad →
-        Put out end (line n (tag_at xs at) (Refused (BadRecord at))) last after → last ≤ LISTING-MOST →
+        {after : List ℕ} {last : ℕ} → read_at xs at ≡ None →
+        Put out end (line n (tag_at xs at) (Err (BadRecord at))) last after → last ≤ LISTING-MOST →
         Listed xs n at s T out end after last
     listed-bad e p k =
         record {
@@ -87,7 +86,7 @@ module _ {xs : List ℕ} {n at : ℕ} {s : Shape} {T : State} {out : List ℕ} {
         }
 
     pub listed-stop :
-        {r : Record} {next : ℕ} {a : Answer} {U : State} {after : List ℕ} {last : ℕ} → read_at xs at ≡ Read.Record r next →
+        {r : Record} {next : ℕ} {a : Answered} {U : State} {after : List ℕ} {last : ℕ} → read_at xs at ≡ Some (r, next) →
         outcome a U ≡ record_step s T r → stops a ≡ true → Put out end (line n (tag_at xs at) a) last after →
         last ≤ LISTING-MOST → Listed xs n at s T out end after last
     listed-stop {a = a} {after = after} {last} e o g p k =
@@ -103,8 +102,8 @@ module _ {xs : List ℕ} {n at : ℕ} {s : Shape} {T : State} {out : List ℕ} {
         }
 
     pub listed-record :
-        {r : Record} {next : ℕ} {a : Answer} {U : State} {more after : List ℕ} {middle last : ℕ} →
-        read_at xs at ≡ Read.Record r next → GoesOn (record_step s T r) → outcome a U ≡ record_step s T r →
+        {r : Record} {next : ℕ} {a : Answered} {U : State} {more after : List ℕ} {middle last : ℕ} →
+        read_at xs at ≡ Some (r, next) → GoesOn (record_step s T r) → outcome a U ≡ record_step s T r →
         Put out end (line n (tag_at xs at) a) middle more →
         Listed xs (n + 1) next (shape_after s r) U more middle after last → Listed xs n at s T out end after last
     listed-record {r} {next} {a} {U} {more} {after} {middle} {last} e g o p rest =

@@ -1,11 +1,10 @@
 -- The lines of a script's records from an offset on, in a buffer with room for them.
 -- Assumes nothing.
-use Rattle.std.specs.Prelude.{◌≡◌, true, List, ℕ, ◌+◌, ◌*◌, ◌/◌, ◌≤◌, ◌<◌, length}
+use Rattle.std.specs.Prelude.{Some, ◌≡◌, true, List, ℕ, ◌+◌, ◌*◌, ◌/◌, ◌≤◌, ◌<◌, length}
 use Rattle.laws.specs.Sets.{Put}
 use Rattle.shape.specs.declared.Shape.{Shape}
 use Rattle.shape.specs.Limits.{allowed, most_blocks, most_levels, most_threads}
 use Rattle.rules.specs.declared.script.Record.TheVariants.{Pool}
-use Rattle.rules.specs.declared.script.Read.{Read}
 use Rattle.rules.specs.Numbers.{MOST-BYTES, CELLS}
 use Rattle.rules.specs.Tables.{State, fresh}
 use Rattle.facts.specs.Given.{LengthFacts}
@@ -54,7 +53,7 @@ pub record Titled (xs out : List ℕ) (end : ℕ) : Type 0 where
 -- and whose first record is this shape
 pub record Headed (xs : List ℕ) (next : ℕ) (s : Shape) (out : List ℕ) (end : ℕ) : Type 0 where
   pub titled : Titled xs out end
-  pub first : read_at xs 0 ≡ Read.Record (Pool s) next
+  pub first : read_at xs 0 ≡ Some ((Pool s), next)
 
 -- tables at least as long as those of the largest shape
 pub record Largest (T : State) : Type 0 where

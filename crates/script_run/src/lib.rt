@@ -7,8 +7,8 @@ ghost use Rattle.std.specs.Prelude.{◌≡◌, ◌≤◌, length};
 ghost use Rattle.std.proofs.lemmas.List.Edits.{sets};
 ghost use Rattle.rules.specs.Listing.{listing};
 
+use rules::Refusal;
 use rules::script::MOST_BYTES;
-use rules::{Answer, Refusal};
 use script_lines::LINE_MOST;
 
 // The bytes of the header, and the fewest of a record.
@@ -24,18 +24,11 @@ pub fn list_script(script: &[u8], out: &mut [u8; LISTING_MOST]) -> usize
     ensures { (out.new ≡ sets out.old 0 (listing script.now)) × (result ≡ length (listing script.now)) × (result ≤ length out.new) }
 {
     let end = script_lines::put_header(out);
-    let length = script.len();
-    if length == 0 {
-        return script_lines::put_line(out, end, 0, 0, Answer::Refused(Refusal::BadRecord(0)));
+    if script.is_empty() {
+        return script_lines::put_line(out, end, 0, 0, Err(Refusal::BadRecord(0)));
     }
-    if MOST_BYTES < length {
-        return script_lines::put_line(
-            out,
-            end,
-            0,
-            0,
-            Answer::Refused(Refusal::BadRecord(MOST_BYTES)),
-        );
+    if MOST_BYTES < script.len() {
+        return script_lines::put_line(out, end, 0, 0, Err(Refusal::BadRecord(MOST_BYTES)));
     }
     first::run_first(script, out, end)
 }

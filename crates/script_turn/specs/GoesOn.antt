@@ -1,12 +1,11 @@
 -- On sound tables no step stops the run: refusal 1 comes from the shape alone.
 -- Assumes nothing.
-use Rattle.std.specs.Prelude.{◌≡◌, refl, true, false, ◌⊎◌, ℕ, eqb}
+use Rattle.std.specs.Prelude.{Err, ◌≡◌, refl, true, false, ◌⊎◌, ℕ, eqb}
 use Rattle.std.proofs.Common.{inl, inr, arith, eqb-true, ne_eqb}
 use Rattle.laws.specs.Tests.{either}
 use Rattle.shape.specs.declared.Shape.{Shape}
 use Rattle.rules.specs.declared.Call.{Call}
 use Rattle.rules.specs.declared.Refusal.{Refusal}
-use Rattle.rules.specs.declared.Answer.TheVariants.{Refused}
 use Rattle.rules.specs.Answers.{refusal_number}
 use Rattle.rules.specs.Tables.{State}
 use Rattle.rules.specs.Steps.{Outcome, take_from, split_step, grant_step, merge_step, settle_step}
@@ -21,10 +20,10 @@ pub record GoesOn (o : Outcome) : Type 0 where
   pub on : stops o.answer ≡ false
 
 -- also behind one that ended a call without a block
-ended : (r : Refusal) → closes r ≡ true → stops (Refused r) ≡ false
+ended : (r : Refusal) → closes r ≡ true → stops (Err r) ≡ false
 ended r k = go (either (eqb (refusal_number r) 14) _ k)
   where
-    go : (eqb (refusal_number r) 14 ≡ true) ⊎ (eqb (refusal_number r) 15 ≡ true) → stops (Refused r) ≡ false
+    go : (eqb (refusal_number r) 14 ≡ true) ⊎ (eqb (refusal_number r) 15 ≡ true) → stops (Err r) ≡ false
     go (inl e) = rw (eqb-true (refusal_number r) 14 e) refl
     go (inr e) = rw (eqb-true (refusal_number r) 15 e) refl
 

@@ -9,7 +9,7 @@ ghost use Rattle.shape.specs.Limits.{parts, most_levels, most_count, most_blocks
 ghost use Rattle.shape.specs.Blocks.{size, count, offset, level_for, id, above, place, blocks, bytes};
 
 #[repr(C)]
-#[derive(Clone, Copy)]
+#[derive(Clone, Copy, Debug, PartialEq, Eq, Hash)]
 pub struct Shape {
     pub pool: usize,
     pub threads: usize,
@@ -53,20 +53,15 @@ impl Shape {
     pub fn allowed(self) -> bool
         ensures { result ≡ allowed self }
     {
-        let levels = self.levels;
-        if levels < 1 {
+        if !(1..=Shape::MOST_LEVELS).contains(&self.levels) {
             return false;
         }
-        if Shape::MOST_LEVELS < levels {
-            return false;
-        }
-        let unit = Shape::LEAST_MULTIPLE * self.power(levels - 1);
+        let unit = Shape::LEAST_MULTIPLE * self.power(self.levels - 1);
         (self.pool <= Shape::MOST_POOL)
-            & ((1 <= self.threads) & (self.threads <= Shape::MOST_THREADS))
-            & ((1 <= levels) & (levels <= Shape::MOST_LEVELS))
-            & ((1 <= self.tops) & (self.tops <= Shape::MOST_TOPS))
-            & ((1 <= self.top_size) & (self.top_size <= Shape::MOST_TOP_SIZE))
-            & (self.top_size % unit == 0)
+            & (1..=Shape::MOST_THREADS).contains(&self.threads)
+            & (1..=Shape::MOST_TOPS).contains(&self.tops)
+            & (1..=Shape::MOST_TOP_SIZE).contains(&self.top_size)
+            & self.top_size.is_multiple_of(unit)
     }
 
     // The block size at a level.
@@ -98,12 +93,10 @@ impl Shape {
         requires { allowed self ≡ true }
         ensures { result ≡ level_for self request }
     {
-        let mut level = self.levels - 1;
-        while 0 < level {
+        for level in (1..self.levels).rev() {
             if request <= self.size(level) {
                 return level;
             }
-            level = level - 1;
         }
         0
     }

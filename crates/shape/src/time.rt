@@ -2,19 +2,18 @@
 ghost use Rattle.std.specs.Prelude.{◌≡◌, ◌≤◌};
 ghost use Rattle.shape.specs.Time.{longest, ticks, wait};
 
-#[derive(Clone, Copy)]
+#[derive(Clone, Copy, Debug, PartialEq, Eq, Hash)]
 pub struct Millis(pub i32);
 
-#[derive(Clone, Copy)]
+#[derive(Clone, Copy, Debug, PartialEq, Eq, Hash)]
 pub struct Ticks(pub u64);
 
 // How long an ask may wait.
-#[derive(Clone, Copy)]
+#[derive(Clone, Copy, Debug, PartialEq, Eq, Hash)]
 pub enum Wait {
     Never,
     Forever,
     Timed(Ticks),
-    Outside,
 }
 
 impl Millis {
@@ -28,7 +27,7 @@ impl Millis {
         requires { ms ≤ longest }
         ensures { (result ≡ ticks ms) × (result ≤ longest) }
     {
-        (ms + (Millis::TICK - 1)) / Millis::TICK
+        ms.div_ceil(Millis::TICK)
     }
 
     // The longest wait in ticks.
@@ -38,23 +37,18 @@ impl Millis {
         Millis::in_ticks(Millis::LONGEST as u64) as usize
     }
 
-    // What a number of milliseconds allows: -1 is forever, 0 none, 1 to the longest a time.
-    pub fn wait(self) -> Wait
+    // What a number of milliseconds allows: -1 is forever, 0 none, 1 to the longest a time; another is no wait.
+    pub fn wait(self) -> Option<Wait>
         ensures { result ≡ wait self.0 }
     {
-        let ms = self.0;
-        if ms == -1 {
-            return Wait::Forever;
+        match self.0 {
+            -1 => Some(Wait::Forever),
+            0 => Some(Wait::Never),
+            ms @ 1..=Millis::LONGEST => {
+                let ticks = Millis::in_ticks(u64::from(ms.unsigned_abs()));
+                Some(Wait::Timed(Ticks(ticks)))
+            }
+            _ => None,
         }
-        if ms < 0 {
-            return Wait::Outside;
-        }
-        if ms == 0 {
-            return Wait::Never;
-        }
-        if Millis::LONGEST < ms {
-            return Wait::Outside;
-        }
-        Wait::Timed(Ticks(Millis::in_ticks(ms as u64)))
     }
 }

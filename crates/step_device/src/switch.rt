@@ -6,33 +6,22 @@ ghost use Rattle.rules.specs.Tables.{state};
 ghost use Rattle.rules.specs.Steps.{outcome};
 ghost use Rattle.rules.specs.Calls.{switch_step};
 
-use rules::{Answer, Device, Ran, Refusal};
+use rules::{Answer, Device, Refusal};
 use shape::Shape;
 
 // Switch to a thread: refused where there is no such thread, or where it is blocked.
-pub fn switch_step(d: Device, s: Shape, calls: &[u64], t: usize) -> Ran
+#[tactic(auto, unfolding(rules::specs::Calls::switch_step))]
+pub fn switch_step(d: &mut Device, s: Shape, calls: &[u64], t: usize) -> Result<Answer, Refusal>
     requires { (allowed s ≡ true) × (length calls.now ≡ CELLS * s.threads) }
-    ensures { (states owners lists queue : List ℕ) → outcome result.answer (state states owners lists calls.now queue result.device) ≡ switch_step s (state states owners lists calls.now queue d) t }
+    ensures { (states owners lists queue : List ℕ) → outcome result (state states owners lists calls.now queue d.new) ≡ switch_step s (state states owners lists calls.now queue d.old) t }
 {
-    let clock = d.clock;
     if s.threads <= t {
-        return Ran {
-            answer: Answer::Refused(Refusal::NoThread),
-            device: d,
-        };
+        return Err(Refusal::NoThread);
     }
     let c = tables_threads::call::call_of(calls, t);
     if c.stage == rules::WAITING {
-        return Ran {
-            answer: Answer::Refused(Refusal::IsBlocked),
-            device: d,
-        };
+        return Err(Refusal::IsBlocked);
     }
-    Ran {
-        answer: Answer::Switched,
-        device: Device {
-            clock,
-            running: t as u32 + 1,
-        },
-    }
+    d.running = t as u32 + 1;
+    Ok(Answer::Switched)
 }

@@ -4,12 +4,13 @@ ghost use Rattle.rules.specs.Tables.{state, call_of};
 ghost use Rattle.rules.specs.Steps.{outcome, go_on_step};
 ghost use Rattle.step_go_on.specs.GoesOn.{GoesOn};
 
-use rules::{Device, Ran};
+use rules::{Answer, Device, Refusal};
 use shape::Shape;
 
 // Go on by a thread that runs and has a call open, on valid tables.
+#[tactic(auto, unfolding(rules::specs::Steps::go_on_step))]
 pub fn go_on_step(
-    d: Device,
+    d: &mut Device,
     s: Shape,
     states: &mut [u8],
     owners: &mut [u8],
@@ -17,22 +18,21 @@ pub fn go_on_step(
     calls: &mut [u64],
     queue: &mut [u8],
     t: usize,
-) -> Ran
-    requires { GoesOn s (state states.old owners.old lists.old calls.old queue.old d) t }
-    ensures { outcome result.answer (state states.new owners.new lists.new calls.new queue.new result.device) ≡ go_on_step s (state states.old owners.old lists.old calls.old queue.old d) t (call_of calls.old t) }
+) -> Result<Answer, Refusal>
+    requires { GoesOn s (state states.old owners.old lists.old calls.old queue.old d.old) t }
+    ensures { outcome result (state states.new owners.new lists.new calls.new queue.new d.new) ≡ go_on_step s (state states.old owners.old lists.old calls.old queue.old d.old) t (call_of calls.old t) }
 {
     let c = tables_threads::call::call_of(calls, t);
-    if c.stage == rules::ASKED {
-        return step_take::look::look_step(d, s, lists, calls, queue, t, c);
+    match c.stage {
+        rules::ASKED => step_take::look::look_step(d, s, lists, calls, queue, t, c),
+        rules::FOUND => Ok(step_take::take::take_step(s, states, lists, calls, t, c)),
+        rules::DIVIDING => {
+            let answer = step_take::divide::divide_step(s, states, owners, lists, calls, t, c);
+            Ok(answer)
+        }
+        _ => {
+            let answer = step_release::release::release_step(s, states, lists, calls, queue, t, c);
+            Ok(answer)
+        }
     }
-    if c.stage == rules::FOUND {
-        let answer = step_take::take::take_step(s, states, lists, calls, t, c);
-        return Ran { answer, device: d };
-    }
-    if c.stage == rules::DIVIDING {
-        let answer = step_take::divide::divide_step(s, states, owners, lists, calls, t, c);
-        return Ran { answer, device: d };
-    }
-    let answer = step_release::release::release_step(s, states, lists, calls, queue, t, c);
-    Ran { answer, device: d }
 }

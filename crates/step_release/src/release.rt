@@ -9,6 +9,7 @@ use rules::{Answer, Call};
 use shape::Shape;
 
 // Merge: the buddies leave the list, all parts become NOEXIST, the parent FREEING and in hand.
+#[tactic(auto, unfolding(rules::specs::Steps::merge_step, shape::specs::Limits::parts))]
 pub fn merge_step(
     s: Shape,
     states: &mut [u8],
@@ -18,7 +19,7 @@ pub fn merge_step(
     c: Call,
 ) -> Answer
     requires { Merges s states.old lists.old calls.old t c }
-    ensures { (owners queue : List ℕ) (d : Device) → outcome result (state states.new owners lists.new calls.new queue d) ≡ merge_step s (state states.old owners lists.old calls.old queue d) t c }
+    ensures { (owners queue : List ℕ) (d : Device) → outcome (Ok result) (state states.new owners lists.new calls.new queue d) ≡ merge_step s (state states.old owners lists.old calls.old queue d) t c }
 {
     let l = c.level;
     let b = c.block;
@@ -30,6 +31,7 @@ pub fn merge_step(
 }
 
 // Settle: the block becomes FREE and is listed, the call closes, and every waiting thread is ready and asked.
+#[tactic(auto, unfolding(rules::specs::Steps::settle_step))]
 pub fn settle_step(
     s: Shape,
     states: &mut [u8],
@@ -40,7 +42,7 @@ pub fn settle_step(
     c: Call,
 ) -> Answer
     requires { Settles s states.old lists.old calls.old queue.old t c }
-    ensures { (owners : List ℕ) (d : Device) → outcome result (state states.new owners lists.new calls.new queue.new d) ≡ settle_step s (state states.old owners lists.old calls.old queue.old d) t c }
+    ensures { (owners : List ℕ) (d : Device) → outcome (Ok result) (state states.new owners lists.new calls.new queue.new d) ≡ settle_step s (state states.old owners lists.old calls.old queue.old d) t c }
 {
     let l = c.level;
     let b = c.block;
@@ -52,6 +54,7 @@ pub fn settle_step(
 }
 
 // A releasing call goes on: merge below level 0 with its buddies FREE, settle otherwise.
+#[tactic(auto, unfolding(rules::specs::Steps::release_step))]
 pub fn release_step(
     s: Shape,
     states: &mut [u8],
@@ -62,7 +65,7 @@ pub fn release_step(
     c: Call,
 ) -> Answer
     requires { Settles s states.old lists.old calls.old queue.old t c }
-    ensures { (owners : List ℕ) (d : Device) → outcome result (state states.new owners lists.new calls.new queue.new d) ≡ release_step s (state states.old owners lists.old calls.old queue.old d) t c }
+    ensures { (owners : List ℕ) (d : Device) → outcome (Ok result) (state states.new owners lists.new calls.new queue.new d) ≡ release_step s (state states.old owners lists.old calls.old queue.old d) t c }
 {
     if tables_pool::states::merges(s, states, c.level, c.block) {
         return merge_step(s, states, lists, calls, t, c);

@@ -9,6 +9,7 @@ use rules::{Answer, Call};
 use shape::Shape;
 
 // Split: the block becomes DIVIDED, its first part ALLOCATING and in hand, the others FREE and listed.
+#[tactic(auto, unfolding(rules::specs::Steps::split_step, shape::specs::Limits::parts))]
 pub fn split_step(
     s: Shape,
     states: &mut [u8],
@@ -18,7 +19,7 @@ pub fn split_step(
     c: Call,
 ) -> Answer
     requires { Splits s states.old lists.old calls.old t c }
-    ensures { (owners queue : List ℕ) (d : Device) → outcome result (state states.new owners lists.new calls.new queue d) ≡ split_step s (state states.old owners lists.old calls.old queue d) t c }
+    ensures { (owners queue : List ℕ) (d : Device) → outcome (Ok result) (state states.new owners lists.new calls.new queue d) ≡ split_step s (state states.old owners lists.old calls.old queue d) t c }
 {
     let l = c.level;
     let b = c.block;
@@ -34,6 +35,7 @@ pub fn split_step(
 }
 
 // Grant: the block becomes ALLOCATED with its owner, and the call closes.
+#[tactic(auto, unfolding(rules::specs::Steps::grant_step))]
 pub fn grant_step(
     s: Shape,
     states: &mut [u8],
@@ -43,7 +45,7 @@ pub fn grant_step(
     c: Call,
 ) -> Answer
     requires { Grants s states.old owners.old calls.old t c }
-    ensures { (lists queue : List ℕ) (d : Device) → outcome result (state states.new owners.new lists calls.new queue d) ≡ grant_step s (state states.old owners.old lists calls.old queue d) t c }
+    ensures { (lists queue : List ℕ) (d : Device) → outcome (Ok result) (state states.new owners.new lists calls.new queue d) ≡ grant_step s (state states.old owners.old lists calls.old queue d) t c }
 {
     let l = c.level;
     let b = c.block;
@@ -54,6 +56,7 @@ pub fn grant_step(
 }
 
 // A dividing call goes on: split above its target, grant at it.
+#[tactic(auto, unfolding(rules::specs::Steps::divide_step))]
 pub fn divide_step(
     s: Shape,
     states: &mut [u8],
@@ -64,7 +67,7 @@ pub fn divide_step(
     c: Call,
 ) -> Answer
     requires { Divides s states.old owners.old lists.old calls.old t c }
-    ensures { (queue : List ℕ) (d : Device) → outcome result (state states.new owners.new lists.new calls.new queue d) ≡ divide_step s (state states.old owners.old lists.old calls.old queue d) t c }
+    ensures { (queue : List ℕ) (d : Device) → outcome (Ok result) (state states.new owners.new lists.new calls.new queue d) ≡ divide_step s (state states.old owners.old lists.old calls.old queue d) t c }
 {
     let target = s.level_for(c.size);
     if c.level < target {

@@ -9,6 +9,7 @@ use rules::{Answer, Call};
 use shape::Shape;
 
 // Take: the first of the found level's list becomes ALLOCATING and in hand; if the list has emptied, the call is asked again.
+#[tactic(auto, unfolding(rules::specs::Steps::take_step, rules::specs::Steps::take_from))]
 pub fn take_step(
     s: Shape,
     states: &mut [u8],
@@ -18,7 +19,7 @@ pub fn take_step(
     c: Call,
 ) -> Answer
     requires { Takes s states.old lists.old calls.old t c }
-    ensures { (owners queue : List ℕ) (d : Device) → outcome result (state states.new owners lists.new calls.new queue d) ≡ take_step s (state states.old owners lists.old calls.old queue d) t c }
+    ensures { (owners queue : List ℕ) (d : Device) → outcome (Ok result) (state states.new owners lists.new calls.new queue d) ≡ take_step s (state states.old owners lists.old calls.old queue d) t c }
 {
     let l = c.level;
     if lists[l] == 0 {

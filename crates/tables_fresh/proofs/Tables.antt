@@ -1,12 +1,13 @@
--- The fresh tables, store by store: rows filled from the front, and the top blocks listed one by one in empty lists.
+-- The fresh tables, store by store: rows filled, and the top blocks listed one by one in empty lists.
 -- Assumes nothing.
-use mathlib.Core.Path.{◌≡◌, refl, sym, ◌∙◌, ap}
+use mathlib.Core.Path.{◌≡◌, refl, sym, ◌∙◌}
 use mathlib.Core.Bool.{true}
-use mathlib.Core.List.{List, [], ◌∷◌, ◌++◌, append-nil}
-use Prim.Native.Nat.{ℕ, zero, suc, ◌+◌, ◌-◌, ◌≤◌, ◌<◌}
+use mathlib.Core.List.{List, [], ◌∷◌, ◌++◌}
+use Prim.Native.Nat.{ℕ, zero, suc, ◌+◌, ◌≤◌, ◌<◌}
 use native.Mathlib.Nat.{zero-add}
 use native.Mathlib.Omega.{arith}
-use lib.ListN.{length, get_or, drop, replicate, length-replicate, drop_of_length-le}
+use lib.ListN.{length, get_or, drop, replicate, length-replicate}
+use Rattle.std.proofs.lemmas.List.{drop-replicate}
 use Rattle.laws.specs.Lists.{up_from}
 use Rattle.laws.specs.Rows.{up_from-more, length-up_from}
 use Rattle.shape.specs.declared.Shape.{Shape}
@@ -19,46 +20,21 @@ use Rattle.rules.specs.Tables.{State, state, free_list, put_list, fresh}
 use Rattle.facts.specs.Given.{LengthFacts}
 use Rattle.facts.specs.Lists.{ListReady, length-put_list, length-put, free_list-put, put_list-put, put_list-same, ready-put}
 
--- a row that is filled to its end
-pub fill-all : (n v : ℕ) (xs : List ℕ) → n ≡ length xs → replicate n v ++ drop n xs ≡ replicate (length xs) v
-fill-all n v xs e = rw (← e, drop_of_length-le xs {i = n} (omega arith)) (append-nil (replicate n v))
-
--- what stands behind the first n of a filled row
-pub drop-fill : (n m v : ℕ) → drop n (replicate m v) ≡ replicate (m - n) v
-drop-fill zero m v =
-    let e : m - 0 ≡ m = omega arith in
-    rw e
-drop-fill (suc n) zero v =
-    let e : 0 - suc n ≡ 0 = omega arith in
-    rw e
-drop-fill (suc n) (suc m) v =
-    let e : suc m - suc n ≡ m - n = omega arith in
-    rw e (drop-fill n m v)
-
 zeros : (k i : ℕ) → ◌≡◌ {A = ℕ} (get_or (replicate k 0) i 0) 0
 zeros zero i = refl
 zeros (suc k) zero = refl
 zeros (suc k) (suc i) = zeros k i
 
--- rows filled one after the other: the top blocks FREE over all blocks NOEXIST
-pub tops-free :
-    (s : Shape) (xs : List ℕ) {ys zs : List ℕ} → length xs ≡ blocks s →
-    ys ≡ replicate (length xs) NOEXIST ++ drop (length xs) xs → zs ≡ replicate s.tops FREE ++ drop s.tops ys →
-    zs ≡ (fresh s).pool.states
-unfolding fresh
-tops-free s xs whole e f =
-    f
-    ∙ ap (λ (r : List ℕ). replicate s.tops FREE ++ r)
-    (ap (drop s.tops) (e ∙ fill-all (length xs) NOEXIST xs refl ∙ ap (λ (n : ℕ). replicate n NOEXIST) whole)
-    ∙ drop-fill s.tops (blocks s) NOEXIST)
+-- there are cells for the top blocks
+pub tops-inside : (s : Shape) {m n : ℕ} → allowed s ≡ true → m ≡ blocks s → n ≡ m → s.tops ≤ n
+tops-inside s shape whole e = omega (arith, level-inside s 0 (limits s shape).levels.0, count-top s)
 
--- there are cells for them
-pub tops-inside :
-    (s : Shape) (xs : List ℕ) {ys : List ℕ} → allowed s ≡ true → length xs ≡ blocks s →
-    ys ≡ replicate (length xs) NOEXIST ++ drop (length xs) xs → s.tops ≤ length ys
-tops-inside s xs shape whole e =
-    rw (e, fill-all (length xs) NOEXIST xs refl, length-replicate, whole)
-    (omega (arith, level-inside s 0 (limits s shape).levels.0, count-top s))
+-- the top blocks FREE, filled over all blocks NOEXIST
+pub tops-free :
+    (s : Shape) {m n : ℕ} {ys zs : List ℕ} → n ≡ blocks s → ys ≡ replicate n NOEXIST → m ≡ s.tops → zs ≡ replicate m FREE →
+    zs ++ drop s.tops ys ≡ (fresh s).pool.states
+unfolding fresh
+tops-free s whole e tops f = rw (e, f, whole, tops, drop-replicate)
 
 -- empty lists
 abbrev pub empty : Shape → List ℕ

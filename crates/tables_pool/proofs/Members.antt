@@ -5,7 +5,7 @@ use mathlib.Core.List.{List, [], ◌∷◌, ◌++◌, append_assoc, append-nil}
 use Prim.Native.Nat.{ℕ, ◌+◌, ◌-◌, ◌≤◌, ◌<◌}
 use native.Mathlib.Omega.{arith}
 use lib.ListN.{length, get_or, take, drop, set, length-append}
-use lib.Seq.{sets, sets-eq, take-take, drop-drop}
+use lib.Seq.{sets, take-take}
 use borrow.Rule.Slice.PartMut.{mid_of, put_mid}
 use Rattle.laws.specs.Lists.{pad, up_from}
 use Rattle.laws.specs.Keep.{length-pad, pad-set}
@@ -17,19 +17,17 @@ use Rattle.rules.specs.Tables.{section, free_list, put_list}
 use Rattle.facts.specs.Lists.{ListReady, section-inside, section-row, length-free_list, length-put, free_list-put, put_list-put, put_list-same, ready-put}
 use Rattle.tables_pool.specs.Row.{Ended}
 use Rattle.shape.specs.Limits.{most_count}
+use Rattle.tables_pool.proofs.Parts.{put_back}
 
--- a part of a list that comes back changed
-put_back :
-    (i : ℕ) (xs vs : List ℕ) → i + length vs ≤ length xs → put_mid i (length vs) xs vs ≡ sets xs i vs
-put_back i xs vs h =
-    sym
-    (sets-eq vs xs i h
-    ∙ append_assoc (take i xs) vs _
-    ∙ rw (← drop-drop (length vs) i xs))
-
--- the tables with n numbers from b upward at the end of a list
+-- the tables with the numbers from b up to e at the end of a list
 abbrev pub grown : Shape → List ℕ → ℕ → ℕ → ℕ → List ℕ
-grown s lists l b n = put_list s lists l (free_list s lists l ++ up_from b n)
+grown s lists l b e = put_list s lists l (free_list s lists l ++ up_from b (e - b))
+
+up_from-next : (b e : ℕ) → b ≤ e → up_from b (e - b) ++ (e ∷ []) ≡ up_from b (e + 1 - b)
+up_from-next b e h =
+    let one : e + 1 - b ≡ e - b + 1 = omega arith in
+    let end : b + (e - b) ≡ e = omega arith in
+    rw one (sym (rw end at (up_from-more b (e - b))))
 
 module _ {s : Shape} {lists : List ℕ} {l : ℕ} (ready : ListReady s lists l) where
   -- a section ends where the tables do, at the latest, and a list is short
@@ -80,33 +78,35 @@ module _ {s : Shape} {lists : List ℕ} {l : ℕ} (ready : ListReady s lists l) 
       stays : sets lists (section s l) (pad (count s l) (free_list s lists l)) ≡ lists
       stays = rw (← section-row s lists l ready) (sets-row (section s l) (count s l) lists bounds.0)
 
-  grown-length : (b n : ℕ) → length (free_list s lists l ++ up_from b n) ≡ get_or lists l 0 + n
-  grown-length b n = simp (length-append, length-up_from, members)
+  grown-length : (b e : ℕ) → length (free_list s lists l ++ up_from b (e - b)) ≡ get_or lists l 0 + (e - b)
+  grown-length b e = simp (length-append, length-up_from, members)
 
-  pub grown-none : (b : ℕ) → lists ≡ grown s lists l b 0
+  pub grown-none : (b : ℕ) → lists ≡ grown s lists l b b
   unfolding up_from
-  grown-none b = rw append-nil (sym (put_list-same s lists l ready))
+  grown-none b =
+      let none : b - b ≡ 0 = omega arith in
+      rw (none, append-nil) (sym (put_list-same s lists l ready))
 
   pub grown-ready :
-      (b n : ℕ) → get_or lists l 0 + n < count s l →
-      ListReady s (grown s lists l b n) l × (get_or (grown s lists l b n) l 0 < count s l)
-  grown-ready b n h = (
-    ready-put s lists l _ ready (omega (arith, grown-length b n)),
-    rw (length-put s lists l ready.whole ready.level (free_list s lists l ++ up_from b n), grown-length b n) h,
+      (b e : ℕ) → get_or lists l 0 + (e - b) < count s l →
+      ListReady s (grown s lists l b e) l × (get_or (grown s lists l b e) l 0 < count s l)
+  grown-ready b e h = (
+    ready-put s lists l _ ready (omega (arith, grown-length b e)),
+    rw (length-put s lists l ready.whole ready.level (free_list s lists l ++ up_from b (e - b)), grown-length b e) h,
   )
 
   pub grown-more :
-      (b n : ℕ) → get_or lists l 0 + n < count s l →
-      put_list s (grown s lists l b n) l (free_list s (grown s lists l b n) l ++ ((b + n) ∷ [])) ≡ grown s lists l b (n + 1)
-  grown-more b n h =
+      (b e : ℕ) → b ≤ e → get_or lists l 0 + (e - b) < count s l →
+      put_list s (grown s lists l b e) l (free_list s (grown s lists l b e) l ++ (e ∷ [])) ≡ grown s lists l b (e + 1)
+  grown-more b e h k =
       rw (
-        free_list-put s lists l ready.whole ready.level (free_list s lists l ++ up_from b n) (omega (arith, grown-length b n)),
+        free_list-put s lists l ready.whole ready.level (free_list s lists l ++ up_from b (e - b)) (omega (arith, grown-length b e)),
         append_assoc,
-        ← up_from-more b n,
+        up_from-next b e h,
       )
       (put_list-put s lists l ready.whole ready.level _ _
-      (omega (arith, grown-length b n))
-      (omega (arith, grown-length b (n + 1))))
+      (omega (arith, grown-length b e))
+      (omega (arith, grown-length b (e + 1))))
 
   module _ {from wide : ℕ} (start : from ≡ section s l) (long : wide ≡ count s l) where
     -- the part that is lent is the section

@@ -13,22 +13,19 @@ ghost use Rattle.rules.specs.Steps.{deepest};
 ghost use Rattle.facts.specs.Lists.{ListReady};
 ghost use Rattle.tables_pool.specs.Row.{elsewhere};
 
-use rules::Room;
 use shape::Shape;
 
 // The deepest level from here upward with a FREE block.
-pub fn deepest(lists: &[u16], level: usize) -> Room
+pub fn deepest(lists: &[u16], level: usize) -> Option<usize>
     requires { level < length lists.now }
     ensures { result ≡ deepest lists.now level }
 {
-    let mut l = level + 1;
-    while 0 < l {
-        l = l - 1;
+    for l in (0..=level).rev() {
         if 0 < lists[l] {
-            return Room::At(l);
+            return Some(l);
         }
     }
-    Room::Nowhere
+    None
 }
 
 // Where the members of a level's list begin.
@@ -79,10 +76,8 @@ pub fn append_parts(s: Shape, lists: &mut [u16], l: usize, b: usize)
     ensures { lists.new
         ≡ put_list s lists.old l (free_list s lists.old l ++ up_from b (parts s - 1)) }
 {
-    let mut j = 0;
-    while j < Shape::PARTS - 1 {
-        append(s, lists, l, b + j);
-        j += 1;
+    for part in b..b + (Shape::PARTS - 1) {
+        append(s, lists, l, part);
     }
 }
 

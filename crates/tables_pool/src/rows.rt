@@ -8,12 +8,8 @@ pub fn drop_first(row: &mut [u16], n: usize)
     requires { Ended row.old n × (0 < n) }
     ensures { row.new ≡ pad (length row.old) (drop 1 (take n row.old)) }
 {
-    let mut i = 0;
-    while i + 1 < n {
-        row[i] = row[i + 1];
-        i += 1;
-    }
-    row[i] = 0;
+    row.copy_within(1..n, 0);
+    row[n - 1] = 0;
 }
 
 // Keeps the members that are no parts of this block, in their order, and clears the places behind them; answers how many stay.
@@ -23,15 +19,13 @@ pub fn remove_parts(row: &mut [u16], n: usize, parts: usize, parent: usize) -> u
         × (row.new ≡ pad (length row.old) (keep (elsewhere parts parent) (take n row.old))) }
 {
     let mut kept = 0;
-    let mut i = 0;
-    while i < n {
+    for i in 0..n {
         let b = row[i];
         row[i] = 0;
         if b as usize / parts != parent {
             row[kept] = b;
             kept += 1;
         }
-        i += 1;
     }
     kept
 }

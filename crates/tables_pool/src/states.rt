@@ -29,18 +29,6 @@ pub fn put_state(s: Shape, cells: &mut [u8], l: usize, b: usize, v: u8)
     cells[at] = v;
 }
 
-// Stores one number at n places from here on.
-fn fill(cells: &mut [u8], from: usize, n: usize, v: u8)
-    requires { from + n ≤ length cells.old }
-    ensures { cells.new ≡ sets cells.old from (replicate n v) }
-{
-    let mut i = 0;
-    while i < n {
-        cells[from + i] = v;
-        i += 1;
-    }
-}
-
 // A block is split: it becomes DIVIDED, its first part ALLOCATING and the others FREE.
 pub fn split_states(s: Shape, states: &mut [u8], l: usize, b: usize)
     requires { HasBlock s states.old l b × (l + 1 < s.levels) }
@@ -52,7 +40,7 @@ pub fn split_states(s: Shape, states: &mut [u8], l: usize, b: usize)
     states[at] = DIVIDED;
     let from = s.place(l + 1, Shape::PARTS * b);
     states[from] = ALLOCATING;
-    fill(states, from + 1, Shape::PARTS - 1, FREE);
+    states[from + 1..from + Shape::PARTS].fill(FREE);
 }
 
 // A block merges with its buddies: all become NOEXIST and their parent FREEING.
@@ -64,7 +52,7 @@ pub fn merge_states(s: Shape, states: &mut [u8], l: usize, b: usize)
 {
     let parent = b / Shape::PARTS;
     let from = s.place(l, Shape::PARTS * parent);
-    fill(states, from, Shape::PARTS, NOEXIST);
+    states[from..from + Shape::PARTS].fill(NOEXIST);
     let at = s.place(l - 1, parent);
     states[at] = FREEING;
 }
@@ -79,11 +67,9 @@ pub fn merges(s: Shape, states: &[u8], l: usize, b: usize) -> bool
     }
     let buddy = Shape::PARTS * (b / Shape::PARTS);
     let from = s.place(l, buddy);
-    let mut free = true;
-    let mut j = 0;
-    while j < Shape::PARTS {
-        free = free & ((buddy + j == b) | (states[from + j] == FREE));
-        j += 1;
-    }
-    free
+    let buddies = &states[from..from + Shape::PARTS];
+    buddies
+        .iter()
+        .enumerate()
+        .all(|(j, state)| buddy + j == b || *state == FREE)
 }

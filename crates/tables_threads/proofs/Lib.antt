@@ -1,2 +1,3 @@
 pub mod Awake
 pub mod Staying
+pub mod Members

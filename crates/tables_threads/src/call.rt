@@ -10,13 +10,14 @@ pub fn call_of(calls: &[u64], t: usize) -> Call
     ensures { result ≡ call_of calls.now t }
 {
     let at = CELLS * t;
+    let cells = &calls[at..at + CELLS];
     Call {
-        stage: calls[at] as usize,
-        size: calls[at + 1] as usize,
-        wait: calls[at + 2] as usize,
-        deadline: calls[at + 3] as usize,
-        level: calls[at + 4] as usize,
-        block: calls[at + 5] as usize,
+        stage: cells[0] as usize,
+        size: cells[1] as usize,
+        wait: cells[2] as usize,
+        deadline: cells[3] as usize,
+        level: cells[4] as usize,
+        block: cells[5] as usize,
     }
 }
 
@@ -26,10 +27,12 @@ pub fn put_call(calls: &mut [u64], t: usize, c: Call)
     ensures { calls.new ≡ put_call calls.old t c }
 {
     let at = CELLS * t;
-    calls[at] = c.stage as u64;
-    calls[at + 1] = c.size as u64;
-    calls[at + 2] = c.wait as u64;
-    calls[at + 3] = c.deadline as u64;
-    calls[at + 4] = c.level as u64;
-    calls[at + 5] = c.block as u64;
+    calls[at..at + CELLS].copy_from_slice(&[
+        c.stage as u64,
+        c.size as u64,
+        c.wait as u64,
+        c.deadline as u64,
+        c.level as u64,
+        c.block as u64,
+    ]);
 }

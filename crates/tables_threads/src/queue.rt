@@ -27,9 +27,5 @@ pub fn empty(queue: &mut [u8])
     requires { 1 ≤ length queue.old }
     ensures { queue.new ≡ put_queue (length queue.old - 1) [] }
 {
-    let mut i = 0;
-    while i < queue.len() {
-        queue[i] = 0;
-        i += 1;
-    }
+    queue.fill(0);
 }

@@ -17,11 +17,8 @@ fn wake_queued(calls: &mut [u64], queue: &[u8]) -> usize
         × (result ≡ length (queue_of queue.now)) }
 {
     let end = queue[0] as usize;
-    let mut i = 0;
-    while i < end {
-        let t = queue[i + 1] as usize;
-        calls[CELLS * t] = ASKED as u64;
-        i += 1;
+    for &t in &queue[1..=end] {
+        calls[CELLS * t as usize] = ASKED as u64;
     }
     end
 }
@@ -45,7 +42,8 @@ fn is_due(calls: &[u64], t: usize, clock: usize) -> bool
     (call.wait == TIMED) & (call.deadline == clock)
 }
 
-// The queue's threads that are due become ready and asked; their number is answered.
+// The queue's threads that are due become ready and asked; their number is answered. With a test to be given, `wake_queued` would count
+// what it needs not count.
 fn wake_those_due(calls: &mut [u64], queue: &[u8], clock: usize) -> usize
     requires { MembersInside calls.old queue.now }
     ensures { (calls.new ≡ wake calls.old (keep (due calls.old clock) (queue_of queue.now)))
@@ -53,14 +51,11 @@ fn wake_those_due(calls: &mut [u64], queue: &[u8], clock: usize) -> usize
 {
     let end = queue[0] as usize;
     let mut woken = 0;
-    let mut i = 0;
-    while i < end {
-        let t = queue[i + 1] as usize;
-        if is_due(calls, t, clock) {
-            calls[CELLS * t] = ASKED as u64;
+    for &t in &queue[1..=end] {
+        if is_due(calls, t as usize, clock) {
+            calls[CELLS * t as usize] = ASKED as u64;
             woken += 1;
         }
-        i += 1;
     }
     woken
 }
@@ -75,15 +70,13 @@ fn keep_waiting(calls: &[u64], queue: &mut [u8], clock: usize)
 {
     let end = queue[0] as usize;
     let mut kept = 0;
-    let mut i = 0;
-    while i < end {
+    for i in 0..end {
         let t = queue[i + 1];
         queue[i + 1] = 0;
         if !is_due(calls, t as usize, clock) {
             queue[kept + 1] = t;
             kept += 1;
         }
-        i += 1;
     }
     queue[0] = kept as u8;
 }

@@ -1,17 +1,20 @@
--- `check_calls::calls_valid` meets its contract: the flag says of the threads passed whether each call is kept.
+-- `check_calls::calls_valid` meets its contract: all calls passed are kept, and one that is not decides.
 -- Assumes nothing.
-use mathlib.Core.Path.{sym, ◌∙◌}
-use native.Mathlib.Omega.{arith}
-use Rattle.laws.specs.Tests.{every-none, every_more, every_upto}
+use Rattle.std.proofs.Common.{sym, ◌∙◌, arith}
+use Rattle.laws.specs.Tests.{both_of, every-none, every_more, every-not, every_upto}
 use Rattle.rules.specs.Valid.{calls_kept}
 use Rattle.check_calls.proofs.calls_valid.Goals as goal
 
 pub loop-t-init : goal.loop-t-init
-loop-t-init c = (omega arith, sym (every-none _))
+loop-t-init c = every-none _
+
+pub returns-then-not-call_kept : goal.returns-then-not-call_kept
+unfolding calls_kept
+returns-then-not-call_kept c = sym (every-not _ _ _ c.loop-t-test.true (cc))
 
 pub loop-t-preserved : goal.loop-t-preserved
-loop-t-preserved c = (omega arith, rw every_more (cc))
+loop-t-preserved c = rw every_more (both_of _ _ c.loop-t.invariant (cc))
 
 pub returns : goal.returns
 unfolding calls_kept
-returns c = c.loop-t.invariant.1 ∙ every_upto _ _ _ (omega arith)
+returns c = sym c.loop-t.invariant ∙ every_upto _ _ _ (omega arith)

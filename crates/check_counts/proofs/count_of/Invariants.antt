@@ -1,10 +1,10 @@
-use Prim.Native.Nat.{◌-◌}
-use lib.ListN.{length}
+use Rattle.std.specs.Prelude.{◌≡◌, ℕ, length, drop}
 use Rattle.check_counts.specs.Counted.{Passed}
 use Rattle.check_counts.proofs.count_of.Given as goal
 
-abbrev pub invariant-loop-from : goal.invariant-loop-from
-invariant-loop-from l = Passed l.states l.one l.other l.from l.sum
+-- the states before some place are counted, and those from there on are left
+abbrev pub invariant-loop-part : goal.invariant-loop-part
+invariant-loop-part l = (i : ℕ) × (l.left ≡ drop i l.states) × Passed l.states l.one l.other i l.sum
 
-abbrev pub decreases-loop-from : goal.decreases-loop-from
-decreases-loop-from l = length l.states - l.from
+abbrev pub decreases-loop-part : goal.decreases-loop-part
+decreases-loop-part l = length l.left

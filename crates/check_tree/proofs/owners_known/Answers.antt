@@ -38,14 +38,13 @@ whole s states owners k state owner paired e hs ho hp =
     (ap (λ (t : Bool). every (blocks s) (λ j. leb (get_or states j 0) ALLOCATING) && t) (sym (every-both (blocks s) _ _)))
 
 pub loop-k-init : goal.loop-k-init
-loop-k-init c = (omega arith, highest-none _, highest-none _, pairs-none _ _)
+loop-k-init c = (highest-none _, highest-none _, pairs-none _ _)
 
 pub loop-k-preserved : goal.loop-k-preserved
 loop-k-preserved c = (
-  omega arith,
-  highest-more _ _ _ _ c.loop-k.invariant.1 c.larger-highest_state.ensures,
-  highest-more _ _ _ _ c.loop-k.invariant.2 c.larger-highest_owner.ensures,
-  pairs-more _ _ _ _ c.loop-k.invariant.3,
+  highest-more _ _ _ _ c.loop-k.invariant.0 c.max-highest_state.ensures,
+  highest-more _ _ _ _ c.loop-k.invariant.1 c.max-highest_owner.ensures,
+  pairs-more _ _ _ _ c.loop-k.invariant.2,
 )
 
 pub overflow_cast-result : goal.overflow_cast-result
@@ -53,15 +52,4 @@ overflow_cast-result c = omega (arith, limits c.args.s c.requires.0)
 
 pub returns : goal.returns
 returns c =
-    whole
-    c.args.s
-    _
-    _
-    c.loop-k.k
-    _
-    _
-    _
-    (omega arith)
-    c.loop-k.invariant.1
-    c.loop-k.invariant.2
-    c.loop-k.invariant.3
+    whole c.args.s _ _ c.loop-k.k _ _ _ (omega arith) c.loop-k.invariant.0 c.loop-k.invariant.1 c.loop-k.invariant.2

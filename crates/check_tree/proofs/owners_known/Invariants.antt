@@ -1,8 +1,8 @@
 use mathlib.Core.Path.{◌≡◌}
 use mathlib.Core.Bool.{Bool, not, beq}
 use mathlib.Core.List.{List}
-use Prim.Native.Nat.{ℕ, ◌-◌, ◌≤◌}
-use lib.ListN.{length, get_or}
+use Prim.Native.Nat.{ℕ}
+use lib.ListN.{get_or}
 use lib.Dec.{eqb}
 use Rattle.laws.specs.Tests.{every}
 use Rattle.rules.specs.Numbers.{ALLOCATED}
@@ -14,7 +14,7 @@ unfoldable pub pairs : List ℕ → List ℕ → ℕ → Bool
 pairs states owners n = every n (λ k. beq (eqb (get_or states k 0) ALLOCATED) (not (eqb (get_or owners k 0) 0)))
 
 abbrev pub invariant-loop-k : goal.invariant-loop-k
-invariant-loop-k l = (l.k ≤ length l.states) × Highest l.states l.k l.highest_state × Highest l.owners l.k l.highest_owner × (l.paired ≡ pairs l.states l.owners l.k)
-
-abbrev pub decreases-loop-k : goal.decreases-loop-k
-decreases-loop-k l = length l.states - l.k
+invariant-loop-k l =
+    Highest l.states l.k l.highest_state
+    × Highest l.owners l.k l.highest_owner
+    × (l.paired ≡ pairs l.states l.owners l.k)

@@ -65,11 +65,10 @@ more s states i ok w k h q e =
     (known s states (s.tops + 4 * i) k h)))
 
 pub loop-i-init : goal.loop-i-init
-loop-i-init c = (omega arith, room _ _ c.requires.0 c.requires.3 ∙ sym c.requires.1, sym (every-none _))
+loop-i-init c = (room _ _ c.requires.0 c.requires.3 ∙ sym c.requires.1, sym (every-none _))
 
 pub loop-i-preserved : goal.loop-i-preserved
 loop-i-preserved c = (
-  omega arith,
   omega arith,
   more
       c.args.s
@@ -80,8 +79,8 @@ loop-i-preserved c = (
       c.requires.2
       (omega arith)
       c.word_at-word.ensures
-      c.loop-i.invariant.2,
+      c.loop-i.invariant.1,
 )
 
 pub returns : goal.returns
-returns c = c.loop-i.invariant.2 ∙ whole _ _ _ (omega arith)
+returns c = c.loop-i.invariant.1 ∙ whole _ _ _ (omega arith)

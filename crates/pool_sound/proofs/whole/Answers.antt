@@ -10,5 +10,5 @@ is_whole-requires c = (c.requires.4.shape, (right-lengths c.requires.4).states, 
 pub returns-then-is_whole : goal.returns-then-is_whole
 returns-then-is_whole c = λ owners lists queue d g. answers g (c.is_whole.ensures owners lists queue d) c.if-is_whole.true
 
-pub returns : goal.returns
-returns c = λ owners lists queue d g. answers g (c.is_whole.ensures owners lists queue d) c.if-is_whole.false
+pub returns-else-is_whole : goal.returns-else-is_whole
+returns-else-is_whole c = λ owners lists queue d g. answers g (c.is_whole.ensures owners lists queue d) c.if-is_whole.false

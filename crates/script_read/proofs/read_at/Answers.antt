@@ -1,31 +1,35 @@
 -- `script_read::read_at` meets its contract: the field is cut, misplaced, or decoded, and the rule goes the same way.
 -- Assumes nothing.
 use mathlib.Core.Path.{sym, ◌∙◌}
-use Rattle.rules.specs.declared.script.Decoded.TheVariants.{Good, Bad}
+use Rattle.std.specs.Prelude.{Some, None}
 use Rattle.script_read.proofs.Reading.{cut, misplaced, value-within, reads}
 use Rattle.script_read.proofs.read_at.Goals as goal
 
-pub returns-in_default : goal.returns-in_default
-returns-in_default c = cut c.args.script.now c.args.at (sym c.field_at.ensures ∙ c.in_default.is)
+pub returns-in_err-field : goal.returns-in_err-field
+returns-in_err-field c =
+    rw c.from_residual.ensures (cut c.args.script.now c.args.at (sym c.field_at.ensures ∙ c.in_err-field.was))
 
-pub returns-then-at-tag : goal.returns-then-at-tag
-returns-then-at-tag c = misplaced c.args.script.now c.args.at c.in-Uncut.field (sym c.field_at.ensures ∙ c.in-Uncut.is) c.if-at-tag.true
+pub returns-then-at-field : goal.returns-then-at-field
+returns-then-at-field c =
+    misplaced c.args.script.now c.args.at c.in_ok-field.field (sym c.field_at.ensures ∙ c.in_ok-field.was) c.if-at-field.true
 
 pub value-requires : goal.value-requires
-value-requires c = value-within c.args.script.now c.args.at c.in-Uncut.field (sym c.field_at.ensures ∙ c.in-Uncut.is)
+value-requires c = value-within c.args.script.now c.args.at c.in_ok-field.field (sym c.field_at.ensures ∙ c.in_ok-field.was)
 
-pub returns-in-Good : goal.returns-in-Good
-returns-in-Good c =
-    reads c.args.script.now c.args.at c.in-Uncut.field (sym c.field_at.ensures ∙ c.in-Uncut.is) c.if-at-tag.false
+pub returns-in_err-record : goal.returns-in_err-record
+returns-in_err-record c =
+    rw c.from_residual-in_err-record.ensures
+    (reads c.args.script.now c.args.at c.in_ok-field.field (sym c.field_at.ensures ∙ c.in_ok-field.was)
+    c.if-at-field.false
     c.value.result.now
     c.value.ensures
-    (Good c.in-Good.«record»)
-    (sym c.in-Good.is ∙ c.decode.ensures)
+    None
+    (sym c.in_err-record.was ∙ c.decode.ensures))
 
-pub returns-in-Bad : goal.returns-in-Bad
-returns-in-Bad c =
-    reads c.args.script.now c.args.at c.in-Uncut.field (sym c.field_at.ensures ∙ c.in-Uncut.is) c.if-at-tag.false
+pub returns : goal.returns
+returns c =
+    reads c.args.script.now c.args.at c.in_ok-field.field (sym c.field_at.ensures ∙ c.in_ok-field.was) c.if-at-field.false
     c.value.result.now
     c.value.ensures
-    Bad
-    (sym c.in-Bad.is ∙ c.decode.ensures)
+    (Some c.in_ok-record.record)
+    (sym c.in_ok-record.was ∙ c.decode.ensures)

@@ -5,5 +5,5 @@ use Rattle.tables_fresh.proofs.make_fresh.Goals as goal
 
 pub returns : goal.returns
 returns c =
-    tables-fresh _ _ c.requires.1 c.free_tops.ensures c.clear.ensures c.list_tops.ensures c.clear_calls.ensures
-    c.clear-2.ensures
+    tables-fresh _ _ c.requires.1 c.free_tops.ensures (c.fill.ensures.after (λ y h. h)) c.list_tops.ensures
+    (c.fill-2.ensures.after (λ y h. h)) (c.fill-3.ensures.after (λ y h. h))

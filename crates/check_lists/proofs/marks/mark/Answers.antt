@@ -4,11 +4,11 @@ use native.Mathlib.Omega.{arith}
 use Rattle.check_lists.proofs.Marking.{marked-none, marked-at, marked_more}
 use Rattle.check_lists.proofs.marks.mark.Goals as goal
 
-pub loop-i-init : goal.loop-i-init
-loop-i-init c = marked-none _ _ c.requires
+pub loop-member-init : goal.loop-member-init
+loop-member-init c = marked-none _ _ c.requires
 
 pub overflow_shl-marks : goal.overflow_shl-marks
-overflow_shl-marks c = omega (arith, marked-at c.loop-i.invariant c.loop-i-test.true)
+overflow_shl-marks c = omega (arith, marked-at c.loop-member.invariant c.loop-member-test.true)
 
-pub loop-i-preserved : goal.loop-i-preserved
-loop-i-preserved c = marked_more c.loop-i.invariant c.loop-i-test.true
+pub loop-member-preserved : goal.loop-member-preserved
+loop-member-preserved c = marked_more c.loop-member.invariant c.loop-member-test.true

@@ -1,32 +1,19 @@
--- `check_queue::queue::queue_ends` meets its contract: the flag says whether the length and the places passed are right.
+-- `check_queue::queue::queue_ends` meets its contract: a queue that is too long fails, and of another each place behind its end is looked at.
 -- Assumes nothing.
-use mathlib.Core.Path.{◌≡◌, ◌∙◌, ap}
-use mathlib.Core.Bool.{Bool, ◌&&◌, and_assoc, and-true}
-use Prim.Native.Nat.{ℕ, ◌+◌}
-use native.Mathlib.Omega.{arith}
-use lib.ListN.{get_or}
-use lib.Dec.{leb}
-use Rattle.laws.specs.Tests.{every, every-none, every_more, every_upto}
+use Rattle.std.proofs.Common.{eqb, refl, ◌∙◌, rules, tests}
+use Rattle.std.proofs.lemmas.Bool.{lt-leb}
+use Rattle.std.proofs.lemmas.Iterator.{YieldsList-from_slice}
+use Rattle.std.proofs.lemmas.Iterator.Search.{all_from_yields_List}
 use Rattle.rules.specs.Valid.{queue_ends}
-use Rattle.check_queue.proofs.queue.queue_ends.Invariants.{ended}
+use Rattle.check_queue.proofs.Members.{zeros-behind}
 use Rattle.check_queue.proofs.queue.queue_ends.Goals as goal
 
--- one place more
-ended-more :
-    (a ok : Bool) (f : ℕ → Bool) (i : ℕ) → ok ≡ (a && every i f) → (ok && f i) ≡ (a && every (i + 1) f)
-ended-more a ok f i e = rw (every_more, e) (and_assoc a (every i f) (f i))
+pub returns-then-end-s : goal.returns-then-end-s
+returns-then-end-s c =
+    all_from_yields_List (λ x. eqb x 0) _ _ _ c.all.ensures.ran (YieldsList-from_slice _ c.iter.ensures.rest)
+    (λ x b q k. search (rules, tests))
+    ∙ zeros-behind c.args.s c.args.queue.now _ _ c.requires c.from-end.ensures c.if-end-s.true refl
 
-pub loop-i-init : goal.loop-i-init
-loop-i-init c = (omega arith, rw (every-none, and-true))
-
-pub loop-i-preserved : goal.loop-i-preserved
-loop-i-preserved c = (
-  omega arith,
-  ended-more (leb (get_or c.args.queue.now 0 0) c.args.s.threads) _ (ended c.args.queue.now) _ c.loop-i.invariant.1,
-)
-
-pub returns : goal.returns
+pub returns-else-end-s : goal.returns-else-end-s
 unfolding queue_ends
-returns c =
-    c.loop-i.invariant.1
-    ∙ ap (λ (b : Bool). leb (get_or c.args.queue.now 0 0) c.args.s.threads && b) (every_upto _ _ _ (omega arith))
+returns-else-end-s c = rw (← c.from-end.ensures, lt-leb _ _ c.if-end-s.false)

@@ -1,12 +1,6 @@
 -- `questions::cover::cover_level` meets its contract: no level passed has an undivided block there, so the deepest is the one from here upward.
 -- Assumes nothing.
-use native.Mathlib.Numerals.{sub-one}
-use native.Mathlib.Omega.{arith}
-use mathlib.Core.Path.{◌≡◌, refl, sym, ◌∙◌}
-use mathlib.Core.Bool.{Bool, true, false, cond}
-use mathlib.Core.List.{List}
-use Prim.Native.Nat.{ℕ, zero, suc, ◌-◌, ◌/◌, ◌≤◌, ◌<◌}
-use lib.ListN.{get_or}
+use Rattle.std.proofs.Common.{◌≡◌, refl, sym, ◌∙◌, Bool, true, false, cond, List, get_or, ℕ, zero, suc, ◌-◌, ◌/◌, ◌≤◌, ◌<◌, sub-one, arith}
 use Rattle.shape.specs.declared.Shape.{Shape}
 use Rattle.shape.specs.Blocks.{size, place}
 use Rattle.shape.specs.Laws.{limits}
@@ -25,9 +19,6 @@ top : (s : Shape) (states : List ℕ) (x l : ℕ) → l ≤ 0 → cover_level s 
 unfolding cover_level
 top s states x zero h = refl
 top s states x (suc l) h = absurd (omega arith)
-
-pub overflow_sub-level : goal.overflow_sub-level
-overflow_sub-level c = omega (arith, limits c.args.s c.requires.0)
 
 pub loop-level-init : goal.loop-level-init
 loop-level-init c = (omega (arith, limits c.args.s c.requires.0), refl)

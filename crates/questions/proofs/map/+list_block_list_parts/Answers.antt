@@ -38,7 +38,7 @@ list_block-returns-else-at-row t c =
 
 pub list_parts-loop-i-init : goal.list_parts-loop-i-init
 unfolding listed
-list_parts-loop-i-init t c = (omega arith, none _ _)
+list_parts-loop-i-init t c = none _ _
 
 pub list_parts-overflow_add-block : goal.list_parts-overflow_add-block
 list_parts-overflow_add-block t c = omega (arith, most c.requires)
@@ -46,8 +46,8 @@ list_parts-overflow_add-block t c = omega (arith, most c.requires)
 pub list_parts-list_block-next-requires : goal.list_parts-list_block-next-requires
 list_parts-list_block-next-requires t c = (
   omega arith,
-  part-listable c.requires c.loop-i-test.true c.loop-i.invariant.1.answered,
+  part-listable c.requires c.loop-i-test.true c.loop-i.invariant.answered,
 )
 
 pub list_parts-loop-i-preserved : goal.list_parts-loop-i-preserved
-list_parts-loop-i-preserved t c = (omega arith, rw listed_more (behind c.loop-i.invariant.1 c.list_block-next.ensures))
+list_parts-loop-i-preserved t c = rw listed_more (behind c.loop-i.invariant c.list_block-next.ensures)

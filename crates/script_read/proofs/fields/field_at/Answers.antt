@@ -1,20 +1,20 @@
 -- `script_read::fields::field_at` meets its contract: what is left of the script behind the offset is compared with what the field takes.
 -- Assumes nothing.
-use Rattle.script_read.specs.Framing.{framed, past-cut, within-uncut}
 use native.Mathlib.Omega.{arith}
+use Rattle.script_read.specs.Framing.{framed, past-cut, within-uncut}
 use Rattle.script_read.proofs.fields.field_at.Goals as goal
 
-pub returns-then-length-lt3 : goal.returns-then-length-lt3
+pub returns-in_err-checked_sub : goal.returns-in_err-checked_sub
 unfolding framed
-returns-then-length-lt3 c = rw (past-cut c.args.script.now c.args.at (omega arith))
+returns-in_err-checked_sub c = rw (c.from_residual.ensures, past-cut c.args.script.now c.args.at (omega (arith, c.in_err-checked_sub.ensures)))
 
-pub returns-then-length-at : goal.returns-then-length-at
+pub returns-in_err-left : goal.returns-in_err-left
 unfolding framed
-returns-then-length-at c = rw (past-cut c.args.script.now c.args.at (omega arith))
+returns-in_err-left c = rw (c.from_residual-in_err-left.ensures, past-cut c.args.script.now c.args.at (omega (arith, c.in_err-left.ensures)))
 
-pub returns-then-length-start : goal.returns-then-length-start
+pub returns-then-left-count : goal.returns-then-left-count
 unfolding framed
-returns-then-length-start c = rw (past-cut c.args.script.now c.args.at (omega (arith, c.number_at-count.ensures.0)))
+returns-then-left-count c = rw (past-cut c.args.script.now c.args.at (omega (arith, c.number_at-count.ensures.0)))
 
 pub returns : goal.returns
 unfolding framed

@@ -1,9 +1,7 @@
 -- `shape::Shape::level_for` meets its contract: no level passed is large enough, so the level for the request is the one from here upward.
 -- Assumes nothing.
-use native.Mathlib.Omega.{arith}
-use mathlib.Core.Path.{◌≡◌, refl, sym, ◌∙◌}
-use Prim.Native.Nat.{ℕ, zero, suc, ◌-◌, ◌≤◌, ◌<◌}
-use borrow.Author.Tests.{le-leb, lt-leb}
+use Rattle.std.proofs.Common.{◌≡◌, refl, sym, ◌∙◌, ℕ, zero, suc, ◌-◌, ◌≤◌, ◌<◌, arith, le-leb}
+use Rattle.std.proofs.lemmas.Bool.{lt-leb}
 use Rattle.shape.specs.declared.Shape.{Shape}
 use Rattle.shape.specs.Blocks.{size, level_from, level_for}
 use Rattle.shape.specs.Laws.{limits}
@@ -28,9 +26,6 @@ unfolding level_from
 top s zero request h = refl
 top s (suc l) request h = absurd (omega arith)
 
-pub overflow_sub-level : goal.overflow_sub-level
-overflow_sub-level c = omega (arith, limits c.args.self c.requires)
-
 pub loop-level-init : goal.loop-level-init
 unfolding level_for
 loop-level-init c = (omega (arith, limits c.args.self c.requires), refl)
@@ -44,7 +39,7 @@ returns-then-request-size c =
     (c.loop-level.invariant.1
     ∙ here
     c.args.self
-    c.loop-level.level
+    (c.loop-level.level - 1)
     c.args.request
     (omega arith)
     (rw (← c.size.ensures) c.if-request-size.true))
@@ -55,7 +50,7 @@ loop-level-preserved c = (
   c.loop-level.invariant.1
       ∙ higher
       c.args.self
-      c.loop-level.level
+      (c.loop-level.level - 1)
       c.args.request
       (omega arith)
       (rw (← c.size.ensures) c.if-request-size.false),
@@ -65,4 +60,4 @@ pub returns : goal.returns
 returns c =
     sym
     (c.loop-level.invariant.1
-    ∙ top c.args.self c.loop-level.level c.args.request (omega arith))
+    ∙ top c.args.self (c.loop-level.level - 1) c.args.request (omega arith))

@@ -1,10 +1,9 @@
--- `step_take::divide::split_step` meets its contract: each call puts what the rule puts, and the first part is a block of the next level.
+-- `step_take::divide::split_step` meets its contract: the first part is a block of the next level.
 -- Assumes nothing.
 use native.Mathlib.Omega.{arith}
 use Rattle.shape.specs.Limits.{parts}
 use Rattle.shape.specs.Laws.{limits, count-range}
 use Rattle.shape.specs.Sections.{part-inside}
-use Rattle.step_take.proofs.Moves.{splits}
 use Rattle.step_take.proofs.divide.split_step.Goals as goal
 
 pub overflow_mul-first : goal.overflow_mul-first
@@ -20,10 +19,3 @@ append_parts-requires c = (c.requires.list, c.requires.room, omega (arith, count
 pub id-requires : goal.id-requires
 unfolding parts
 id-requires c = (c.requires.hand.shape, c.requires.list.level, omega (arith, part-inside c.args.s c.args.c.level c.args.c.block 0 c.requires.hand.block (omega arith)))
-
-pub returns : goal.returns
-unfolding parts
-returns c =
-    λ owners queue d.
-    splits c.args.s c.args.states.now owners c.args.lists.now c.args.calls.now queue d c.args.t c.args.c
-    c.split_states.ensures c.append_parts.ensures c.put_call.ensures c.holding.ensures c.id.ensures

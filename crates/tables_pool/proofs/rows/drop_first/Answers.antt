@@ -1,24 +1,17 @@
--- `tables_pool::rows::drop_first` meets its contract: after i turns the first i places have taken what stood one place behind them.
+-- `tables_pool::rows::drop_first` meets its contract: the members behind the first one stand one place forward, and the last one's place is cleared.
 -- Assumes nothing.
-use native.Mathlib.Omega.{arith}
-use mathlib.Core.Path.{◌≡◌, refl, sym}
-use Prim.Native.Nat.{◌+◌}
-use lib.ListN.{length-set}
-use Rattle.laws.specs.Rows.{shifted_none, shifted-more, shifted_end}
+use Rattle.std.proofs.Common.{◌≡◌, ℕ, ◌+◌, ◌-◌, ◌<◌, List, length, set, take, drop, zero-add, arith}
+use Rattle.std.specs.List.{copy_within}
+use Rattle.laws.specs.Lists.{pad}
+use Rattle.laws.specs.Rows.{shifted, shifted_end}
+use Rattle.tables_pool.specs.Row.{Ended}
 use Rattle.tables_pool.proofs.rows.drop_first.Goals as goal
 
-pub loop-i-init : goal.loop-i-init
-loop-i-init c = (c.requires.1, refl, sym (shifted_none c.args.row.now))
-
-pub loop-i-preserved : goal.loop-i-preserved
-loop-i-preserved c = (
-  omega arith,
-  simp length-set c.loop-i.invariant.1,
-  rw c.loop-i.invariant.2 (shifted-more c.loop-i.i _ (omega arith)),
-)
+moved : (n : ℕ) (row : List ℕ) → Ended row n → 0 < n → set (copy_within row 1 n 0) (n - 1) 0 ≡ pad (length row) (drop 1 (take n row))
+unfolding shifted
+moved n row ended h =
+    let e : n - 1 + 1 ≡ n = omega arith in
+    rw zero-add (rw e at (shifted_end (n - 1) row (omega (arith, ended.most)) (rw e ended.zeros)))
 
 pub returns : goal.returns
-returns c =
-    let e : c.loop-i.i + 1 ≡ c.args.n = omega arith in
-    rw (← e, c.loop-i.invariant.2)
-    (shifted_end c.loop-i.i _ (omega arith) (rw e c.requires.0.zeros))
+returns c = rw c.copy_within.ensures.after (moved _ _ c.requires.0 c.requires.1)

@@ -9,16 +9,14 @@ use Rattle.tables_pool.proofs.rows.remove_parts.Goals as goal
 use Rattle.tables_pool.proofs.rows.remove_parts.Goals.{then-b-parts, else-b-parts}
 
 pub loop-i-init : goal.loop-i-init
-loop-i-init c = (omega arith, sifting-none _ _)
+loop-i-init c = sifting-none _ _
 
 pub loop-i-preserved : goal.loop-i-preserved
-loop-i-preserved c = (
-  omega arith,
-  elim c.if-b-parts.branch [
-    | then-b-parts w ↦ rw (w.row-is, w.kept-is) (sifting-pass c.loop-i.invariant.1 (omega arith) (ap not (ne_eqb _ _ w.if-b-parts.true)))
-    | else-b-parts w ↦ rw (w.row-is, w.kept-is) (sifting-fail c.loop-i.invariant.1 (omega arith) (ap not (eq-eqb _ _ w.if-b-parts.false)))
-  ],
-)
+loop-i-preserved c =
+    elim c.if-b-parts.branch [
+      | then-b-parts w ↦ rw (w.row-is, w.kept-is) (sifting-pass c.loop-i.invariant (omega arith) (ap not (ne_eqb _ _ w.if-b-parts.true)))
+      | else-b-parts w ↦ rw (w.row-is, w.kept-is) (sifting-fail c.loop-i.invariant (omega arith) (ap not (eq-eqb _ _ w.if-b-parts.false)))
+    ]
 
 pub returns : goal.returns
-returns c = sifting-all c.loop-i.invariant.1 _ (omega arith) c.requires.0
+returns c = sifting-all c.loop-i.invariant _ (omega arith) c.requires.0

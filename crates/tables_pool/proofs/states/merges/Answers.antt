@@ -1,8 +1,10 @@
--- `tables_pool::states::merges` meets its contract: after j turns the flag says whether the first j buddies, the block itself left out, are FREE.
+-- `tables_pool::states::merges` meets its contract: the buddies stand together from the first one's place on.
 -- Assumes nothing.
-use native.Mathlib.Omega.{arith}
-use mathlib.Core.Path.{◌≡◌, sym, ◌∙◌}
-use Rattle.laws.specs.Tests.{every-none, every_more}
+use Rattle.std.proofs.Common.{◌||◌, ◌+◌, ◌*◌, ◌/◌, eqb, sym, ◌∙◌, rules, tests, arith}
+use Rattle.std.proofs.lemmas.Iterator.{YieldsList-from_slice}
+use Rattle.std.proofs.lemmas.Iterator.Consumers.{YieldsList-from_enumerate}
+use Rattle.std.proofs.lemmas.Iterator.Search.{all_from_yields_List}
+use Rattle.rules.specs.Numbers.{FREE}
 use Rattle.shape.specs.Limits.{parts}
 use Rattle.tables_pool.proofs.Buddies.{buddies-fit, merges-top, merges-below}
 use Rattle.tables_pool.proofs.states.merges.Goals as goal
@@ -10,19 +12,19 @@ use Rattle.tables_pool.proofs.states.merges.Goals as goal
 pub returns-then-l-eq0 : goal.returns-then-l-eq0
 returns-then-l-eq0 c = sym (merges-top _ _ _ _ c.if-l-eq0.true)
 
-pub loop-j-init : goal.loop-j-init
-loop-j-init c = (omega arith, sym (every-none _))
-
-pub bounds-states-from : goal.bounds-states-from
+pub slice_bounds-buddies-end : goal.slice_bounds-buddies-end
 unfolding parts
-bounds-states-from c = omega (arith, buddies-fit c.requires (omega arith))
-
-pub loop-j-preserved : goal.loop-j-preserved
-loop-j-preserved c = (omega arith, rw c.loop-j.invariant.1 (sym (every_more _ _)))
+slice_bounds-buddies-end c = omega (arith, buddies-fit c.requires (omega arith))
 
 pub returns : goal.returns
 unfolding parts
 returns c =
-    let e : c.loop-j.j ≡ 4 = omega arith in
-    (rw e at c.loop-j.invariant.1)
-    ∙ merges-below _ _ _ _ _ (omega arith) c.place-from.ensures.0
+    all_from_yields_List
+    (λ p. eqb (4 * (c.args.b / 4) + p.0) c.args.b || eqb p.1 FREE)
+    _
+    _
+    c.all.result
+    c.all.ensures.ran
+    (YieldsList-from_enumerate (YieldsList-from_slice _ cc) cc)
+    (λ x b q k. search (rules, tests))
+    ∙ merges-below c.args.s c.args.states.now c.args.l c.args.b c.place-from.result c.requires (omega arith) c.place-from.ensures.0

@@ -1,27 +1,15 @@
--- `empty` meets its contract. The loop's invariant: the first i places hold zero, and the rest is as it was; once all are cleared that is a
--- queue of nobody (`emptied`). Assumes nothing.
-use mathlib.Core.Path.{◌≡◌, refl, ◌∙◌}
-use mathlib.Core.List.{[]}
-use native.Mathlib.Omega.{arith}
-use lib.ListN.{length, length-set}
+-- `empty` meets its contract: zeros in every place are a queue of nobody.
+-- Assumes nothing.
+use Rattle.std.proofs.Common.{◌≡◌, ◌∙◌, List, [], ◌∷◌, ℕ, ◌-◌, ◌≤◌, arith, length, replicate, sub-one}
+use Rattle.std.proofs.Math.Nat.{sub-zero}
 use Rattle.laws.specs.Lists.{pad}
-use Rattle.laws.specs.Keep.{pad-clear}
-use Rattle.facts.specs.Queue.{emptied}
+use Rattle.rules.specs.Tables.{put_queue}
 use Rattle.tables_threads.proofs.queue.empty.Goals as goal
 
-pub loop-i-init : goal.loop-i-init
-unfolding pad
-loop-i-init c = (omega arith, refl, refl)
-
-pub loop-i-preserved : goal.loop-i-preserved
-loop-i-preserved c = (
-  omega arith,
-  simp length-set (omega arith),
-  rw c.loop-i.invariant.2
-      (pad-clear c.loop-i.i [] c.args.queue.now (omega arith) (omega arith)),
-)
+nobody : (queue : List ℕ) → 1 ≤ length queue → replicate (length queue) 0 ≡ put_queue (length queue - 1) []
+unfolding pad put_queue
+nobody [] h = absurd (omega arith)
+nobody (n ∷ ys) h = simp (sub-one, sub-zero)
 
 pub returns : goal.returns
-returns c =
-    let e : c.loop-i.i ≡ length c.args.queue.now = omega arith in
-    c.loop-i.invariant.2 ∙ rw e (emptied c.args.queue.now c.requires)
+returns c = c.fill.ensures.after (λ y h. h) ∙ nobody c.args.queue.now c.requires

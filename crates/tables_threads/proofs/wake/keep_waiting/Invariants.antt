@@ -1,12 +1,8 @@
 use mathlib.Core.Bool.{not}
-use Prim.Native.Nat.{◌-◌, ◌≤◌}
 use Rattle.rules.specs.Calls.{due}
 use Rattle.tables_threads.proofs.Staying.{Staying}
 use Rattle.tables_threads.proofs.wake.keep_waiting.Given as goal
 
 abbrev pub invariant-loop-i : goal.invariant-loop-i
 invariant-loop-i l =
-    (l.i ≤ l.end) × Staying (λ t. not (due l.calls l.clock t)) l.initial.queue l.i l.queue l.kept
-
-abbrev pub decreases-loop-i : goal.decreases-loop-i
-decreases-loop-i l = l.end - l.i
+    Staying (λ t. not (due l.calls l.clock t)) l.initial.queue l.i l.queue l.kept

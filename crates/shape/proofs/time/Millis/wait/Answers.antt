@@ -1,19 +1,28 @@
--- `shape::time::Millis::wait` meets its contract: the tests on the way to each answer say which kind of wait the number is.
+-- `shape::time::Millis::wait` meets its contract: the arm taken says in which range the number is, and so which kind of wait it is.
 -- Assumes nothing.
-use Rattle.shape.proofs.Waits.{forever, negative, never, above, timed}
+use Rattle.std.proofs.Common.{◌≡◌, rules, pos, negsuc, w32, arith}
+use Rattle.std.proofs.lemmas.Int.{ints, to_z-of_z}
+use Rattle.std.specs.Int.RustNames.{FitsSigned}
+use Rattle.shape.specs.Time.{wait}
+use Rattle.shape.proofs.Waits.{below, over, timed}
 use Rattle.shape.proofs.time.Millis.wait.Goals as goal
 
-pub returns-then-ms : goal.returns-then-ms
-returns-then-ms c = forever c.args.self.0 c.struct_told-1.given.0.1 c.if-ms.true
+pub returns-in-minus1 : goal.returns-in-minus1
+unfolding wait
+returns-in-minus1 c = let e : c.args.self.0 ≡ negsuc 0 = omega (arith, ints) in rw e
 
-pub returns-then-ms-lt0 : goal.returns-then-ms-lt0
-returns-then-ms-lt0 c = negative c.args.self.0 c.struct_told-1.given.0.1 c.if-ms.false c.if-ms-lt0.true
+pub returns-in-0 : goal.returns-in-0
+unfolding wait
+returns-in-0 c = let e : c.args.self.0 ≡ pos 0 = omega (arith, ints) in rw e
 
-pub returns-then-ms-eq0 : goal.returns-then-ms-eq0
-returns-then-ms-eq0 c = never c.args.self.0 c.struct_told-1.given.0.1 c.if-ms-lt0.false c.if-ms-eq0.true
+pub returns-in-1-to-600000 : goal.returns-in-1-to-600000
+returns-in-1-to-600000 c =
+    let fits : FitsSigned w32 c.args.self.0 = search rules in
+    rw (c.in_ticks-ticks.ensures.0, c.from.ensures, c.unsigned_abs.ensures.value, to_z-of_z w32 c.args.self.0 fits)
+    (timed c.args.self.0 (omega (arith, ints)) (omega (arith, ints)))
 
-pub returns-then-ms-gt-LONGEST : goal.returns-then-ms-gt-LONGEST
-returns-then-ms-gt-LONGEST c = above c.args.self.0 c.struct_told-1.given.0.1 c.if-ms-gt-LONGEST.true
+pub returns-in_default : goal.returns-in_default
+returns-in_default c = below _ (omega (arith, ints))
 
-pub returns : goal.returns
-returns c = rw c.in_ticks.ensures.0 (timed c.args.self.0 c.struct_told-1.given.0.1 c.if-ms-lt0.false c.if-ms-eq0.false c.if-ms-gt-LONGEST.false)
+pub returns-in_default-2 : goal.returns-in_default-2
+returns-in_default-2 c = over _ (omega (arith, ints))

@@ -1,0 +1,17 @@
+-- `pool::go_on` meets its contract: a verdict that failed is the refusal, and one that passed makes the tables sound.
+-- Assumes nothing.
+use mathlib.Core.Path.{sym, ◌∙◌}
+use Rattle.std.proofs.lemmas.Result.{err_from_is_err_and}
+use Rattle.rules.specs.Refusals.{refused}
+use Rattle.facts.specs.Verdict.{passed, stops}
+use Rattle.rules.specs.Calls.{go_on}
+use Rattle.pool.proofs.go_on.Goals as goal
+
+pub go_on-requires : goal.go_on-requires
+go_on-requires c = passed c.args.s _ (sym c.checked.ensures ∙ c.in_ok-checked.was)
+
+pub returns-in_err-checked : goal.returns-in_err-checked
+unfolding go_on
+returns-in_err-checked c =
+    let p = err_from_is_err_and c.from_residual.result c.from_residual.ensures.1 in
+    rw (p.1, p.2) (stops (refused _) _ c.checked.ensures c.in_err-checked.was)

@@ -1,2 +1,0 @@
-pub mod Switches
-pub mod Ticks
