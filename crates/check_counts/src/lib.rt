@@ -19,7 +19,7 @@ fn count_few(states: &[u8], one: u8, other: u8) -> u8
     sum
 }
 
-// How many states are one of two. By `chunks`, whose length is not known beforehand, 5,456 states took 292 ns, and not 209.
+// How many states are one of two. By `chunks`, whose length the compiler doesn't know, 5,456 states took 292 ns, and not 209.
 pub fn count_of(states: &[u8], one: u8, other: u8) -> usize
     ensures { result ≡ counted states.now one other }
 {

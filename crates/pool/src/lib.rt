@@ -1,5 +1,5 @@
 // The pool's public calls: each takes any numbers and any tables, and makes its step or gives the listed refusal. The tables stand one by
-// one: a struct would lend all of them by `&mut`, and which a call can alter would no longer stand in its signature.
+// one: one struct for all calls would lend each of them by `&mut`, and which a call can alter would no longer stand in its signature.
 #![tactic(auto)]
 
 ghost use Rattle.std.specs.Prelude.{◌≡◌};
@@ -13,6 +13,7 @@ use shape::Shape;
 use shape::time::Millis;
 
 // Build: the lent tables become those of a fresh pool, and the record's clock and runner with them.
+#[tactic(auto, unfolding(rules::specs::Calls::build, rules::specs::Tables::fresh))]
 pub fn build(
     d: &mut Device,
     s: Shape,
@@ -34,6 +35,7 @@ pub fn build(
 }
 
 // Ask: thread t asks for a block of at least this size, and says how long it would wait.
+#[tactic(auto, using(crate::proofs::Checked::checks), unfolding(rules::specs::Calls::ask))]
 pub fn ask(
     d: Device,
     s: Shape,
@@ -53,6 +55,7 @@ pub fn ask(
 }
 
 // Go on: thread t's call makes its next step.
+#[tactic(auto, using(crate::proofs::Checked::checks), unfolding(rules::specs::Calls::go_on))]
 pub fn go_on(
     d: &mut Device,
     s: Shape,
@@ -70,6 +73,7 @@ pub fn go_on(
 }
 
 // Give back: thread t gives back the block with this id.
+#[tactic(auto, using(crate::proofs::Checked::checks), unfolding(rules::specs::Calls::give))]
 pub fn give_back(
     d: Device,
     s: Shape,
@@ -88,6 +92,7 @@ pub fn give_back(
 }
 
 // Switch: thread t runs.
+#[tactic(auto, using(crate::proofs::Checked::checks), unfolding(rules::specs::Calls::switch))]
 pub fn switch(
     d: &mut Device,
     s: Shape,
@@ -105,6 +110,7 @@ pub fn switch(
 }
 
 // Tick: the clock rises, and who waited until now is ready.
+#[tactic(auto, using(crate::proofs::Checked::checks), unfolding(rules::specs::Calls::tick))]
 pub fn tick(
     d: &mut Device,
     s: Shape,
@@ -121,6 +127,7 @@ pub fn tick(
 }
 
 // Whole: whether every byte has come home and no call is open.
+#[tactic(auto, using(crate::proofs::Checked::checks), unfolding(rules::specs::Questions::whole))]
 pub fn whole(
     d: Device,
     s: Shape,
@@ -137,6 +144,7 @@ pub fn whole(
 }
 
 // Cover: the undivided block over a byte offset, with its state.
+#[tactic(auto, using(crate::proofs::Checked::checks), unfolding(rules::specs::Questions::cover, questions::specs::Cover::cover_at))]
 pub fn cover(
     d: Device,
     s: Shape,
@@ -154,6 +162,7 @@ pub fn cover(
 }
 
 // Map: the ids of all undivided blocks by address into the row; answers how many they are.
+#[tactic(auto, using(crate::proofs::Checked::checks), unfolding(rules::specs::Questions::map_pool))]
 pub fn map(
     d: Device,
     s: Shape,

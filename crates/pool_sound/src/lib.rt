@@ -15,6 +15,7 @@ use shape::Shape;
 use shape::time::Millis;
 
 // The first of the refusals 4 and 5 that applies to a thread's call, if one does.
+#[tactic(auto, unfolding(rules::specs::Refusals::running))]
 fn may_step(d: Device, s: Shape, t: usize) -> Result<(), Refusal>
     ensures { result ≡ running s d t }
 {
@@ -29,6 +30,7 @@ fn may_step(d: Device, s: Shape, t: usize) -> Result<(), Refusal>
 }
 
 // Ask: thread t asks for a block of at least this size, and says how long it would wait.
+#[tactic(auto, using(crate::proofs::Needs::needs), unfolding(rules::specs::Calls::ask))]
 pub fn ask(
     d: Device,
     s: Shape,
@@ -45,6 +47,7 @@ pub fn ask(
 }
 
 // Go on: thread t's call makes its next step.
+#[tactic(auto, using(crate::proofs::Needs::needs), unfolding(rules::specs::Calls::go_on))]
 pub fn go_on(
     d: &mut Device,
     s: Shape,
@@ -67,6 +70,7 @@ pub fn go_on(
 }
 
 // Give back: thread t gives back the block with this id.
+#[tactic(auto, using(crate::proofs::Needs::needs), unfolding(rules::specs::Calls::give))]
 pub fn give_back(
     d: Device,
     s: Shape,
@@ -84,6 +88,7 @@ pub fn give_back(
 }
 
 // Switch: thread t runs.
+#[tactic(auto, using(crate::proofs::Needs::needs), unfolding(rules::specs::Calls::switch))]
 pub fn switch(d: &mut Device, s: Shape, calls: &[u64], t: usize) -> Result<Answer, Refusal>
     requires { CallsSound s calls.now d.old }
     ensures { (states owners lists queue : List ℕ) → Sound s (state states owners lists calls.now queue d.old) → outcome result (state states owners lists calls.now queue d.new) ≡ switch s (state states owners lists calls.now queue d.old) t }
@@ -92,6 +97,7 @@ pub fn switch(d: &mut Device, s: Shape, calls: &[u64], t: usize) -> Result<Answe
 }
 
 // Tick: the clock rises, and who waited until now is ready.
+#[tactic(auto, using(crate::proofs::Needs::needs), unfolding(rules::specs::Calls::tick))]
 pub fn tick(
     d: &mut Device,
     s: Shape,
@@ -105,6 +111,7 @@ pub fn tick(
 }
 
 // Whole: whether every byte has come home and no call is open.
+#[tactic(auto, using(crate::proofs::Needs::needs), unfolding(rules::specs::Questions::whole))]
 pub fn whole(s: Shape, states: &[u8], calls: &[u64]) -> Answer
     requires { StatesSound s states.now calls.now }
     ensures { (owners lists queue : List ℕ) (device : Device) → Sound s (state states.now owners lists calls.now queue device) → Ok result ≡ whole s (state states.now owners lists calls.now queue device) }

@@ -4,7 +4,7 @@
 ghost use Rattle.std.specs.Prelude.{◌≡◌, ◌<◌};
 ghost use Rattle.rules.specs.Moves.{may_move};
 
-// A row for each state that is left, a column for each that is reached: 1 where the move happens. Numbers, for the sake of the eye.
+// A row for each state that is left, a column for each that is reached: 1 where the move happens. Document 01 names the table, and 0 and 1 are read against it.
 const MOVES: [[u8; 6]; 6] = [
     [0, 0, 0, 0, 1, 0],
     [0, 0, 0, 1, 0, 1],

@@ -15,7 +15,7 @@ pub struct Lengths {
     pub queue: usize,
 }
 
-// How long each table of this shape is: what to lend. All are 0 where the shape is not allowed.
+// How long each table of this shape is: what to lend. All are 0 where the shape is not allowed, since C knows no Option.
 pub fn lengths_of(s: Shape) -> Lengths
     ensures { result ≡ table_lengths s }
 {

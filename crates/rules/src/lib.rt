@@ -55,7 +55,7 @@ pub struct Device {
     pub running: u32,
 }
 
-// A thread's call as its cells hold it, which C lends. The level is the found level, or the level of the block in hand.
+// A thread's call as its cells hold it, which C lends: so wait and deadline are numbers, which validity judges. The level is the found level, or the level of the block in hand.
 #[derive(Clone, Copy, Debug, PartialEq, Eq)]
 pub struct Call {
     pub stage: usize,

@@ -1,4 +1,5 @@
-// The pool for C: the calls of crate `pool`, each with what C passes and with its answer in numbers. The header is include/saltbalance.h.
+// The pool for C: the calls of crate `pool`, each with its answer in numbers. One export beside each call and none generic, since C calls
+// each by its name and passes each table by itself. The header is include/saltbalance.h.
 #![tactic(auto)]
 
 pub mod said;

@@ -1,23 +1,36 @@
--- Four fields, one behind the other, are a line.
+-- Fields, one behind the other, are a line, and each has few digits.
 -- Assumes nothing.
 use mathlib.Core.Path.{◌≡◌}
-use mathlib.Core.List.{List, ◌++◌}
-use Prim.Native.Nat.{ℕ, ◌+◌, ◌≤◌}
+use mathlib.Core.List.{List, [], ◌∷◌, ◌++◌}
+use Prim.Native.Nat.{ℕ, ◌+◌, ◌^◌, ◌≤◌, ◌<◌}
 use native.Mathlib.Omega.{arith}
-use lib.ListN.{length}
+use lib.ListN.{length, set, length-append}
 use lib.Seq.{sets}
-use Rattle.laws.specs.Sets.{Put, put-behind}
-use Rattle.rules.specs.Answers.{Answered, number, detail}
-use Rattle.rules.specs.Listing.{line}
-use Rattle.script_lines.specs.Buffer.{LINE-MOST, field, line-fields, Short, fields-short}
+use Rattle.laws.specs.Digits.{digits}
+use Rattle.laws.specs.Sets.{sets-append}
+use Rattle.script_lines.specs.Buffer.{length-field, line-fields, digits-short, number_short}
 
-pub line-put :
-    (xs : List ℕ) (at n tag : ℕ) (a : Answered) {k d : ℕ} {ys zs us vs : List ℕ} {p q r next : ℕ} → Short n tag k d →
-    k ≡ number a → d ≡ detail a → Put xs at (field n 32) p ys → Put ys p (field tag 32) q zs → Put zs q (field k 32) r us →
-    Put us r (field d 10) next vs →
-    (next ≡ at + length (line n tag a)) × (vs ≡ sets xs at (line n tag a)) × (next ≤ at + LINE-MOST)
-line-put xs at n tag a {k} {d} {ys} {zs} {us} {vs} {p} {q} {r} {next} short e f w x y z =
-    rw (line-fields, ← e, ← f) (whole.0, whole.1, omega (arith, whole.0, fields-short short))
-  where
-    whole : Put xs at (field n 32 ++ (field tag 32 ++ (field k 32 ++ field d 10))) next vs
-    whole = put-behind xs at (field n 32) _ w (put-behind ys p (field tag 32) _ x (put-behind zs q (field k 32) (field d 10) y z))
+-- a byte or a run that is stored behind another
+pub set_behind :
+    (xs us : List ℕ) (at v : ℕ) {m : ℕ} → m ≡ at + length us → set (sets xs at us) m v ≡ sets xs at (us ++ (v ∷ []))
+set_behind xs us at v e = rw e (sets-append xs us (v ∷ []) at)
+
+pub sets_behind :
+    (xs us vs : List ℕ) (at : ℕ) {m : ℕ} → m ≡ at + length us → sets (sets xs at us) m vs ≡ sets xs at (us ++ vs)
+sets_behind xs us vs at e = rw e (sets-append xs us vs at)
+
+-- the most digits of a record's number, its tag, its answer and the detail
+pub of_record : (n : ℕ) → n < 100000 → length (digits n) ≤ 5
+of_record n h = digits-short 4 n h
+
+pub of_tag : (n : ℕ) → n < 256 → length (digits n) ≤ 3
+of_tag n h = digits-short 2 n (omega arith)
+
+pub of_answer : (n : ℕ) → n < 100 → length (digits n) ≤ 2
+of_answer n h = digits-short 1 n h
+
+pub of_detail : (n : ℕ) → n < 2 ^ 64 → length (digits n) ≤ 20
+of_detail n h = digits-short 19 n (omega arith)
+
+-- what the check of `put_field` and `put_line` uses
+pub ruleset line_steps = (set_behind, sets_behind, length-append, length-field, line-fields, number_short, of_record, of_tag, of_answer, of_detail)

@@ -78,3 +78,6 @@ module _ {before : List ℕ} {at n : ℕ} {after : List ℕ} {rest place : ℕ} 
       left = λ z. split.2 (omega (arith, f.placed, ap length (f.left h), ap length split.1, length-append split.0 ((48 + rest % 10) ∷ [])));
       written = written-before (48 + rest % 10);
     }
+
+-- what the check of `digit_count` and `put_number` uses
+pub ruleset filling = (digits-counted, one-filled, all-filled)

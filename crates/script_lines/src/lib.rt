@@ -13,6 +13,7 @@ use rules::{Answer, Refusal};
 pub const LINE_MOST: usize = 34;
 
 // How many decimal digits a number has.
+#[tactic(auto, using(crate::proofs::Filling::filling))]
 fn digit_count(n: usize) -> usize
     ensures { result ≡ length (digits n) }
 {
@@ -21,6 +22,7 @@ fn digit_count(n: usize) -> usize
 
 // Writes the decimal digits of a number from a place on, the last one first, and answers the place behind them.
 // By hand: the contract of `write!` says neither that it succeeds nor what stands in the buffer where it fails.
+#[tactic(auto, using(crate::proofs::Filling::filling))]
 pub fn put_number(out: &mut [u8], at: usize, n: usize) -> usize
     requires { at + length (digits n) ≤ length out.old }
     ensures { (result ≡ at + length (digits n)) × (out.new ≡ sets out.old at (digits n)) }
@@ -35,6 +37,7 @@ pub fn put_number(out: &mut [u8], at: usize, n: usize) -> usize
 }
 
 // Writes a number and the byte behind it, and answers the place behind both.
+#[tactic(auto, using(crate::proofs::Fields::line_steps), unfolding(crate::specs::Buffer::field))]
 fn put_field(out: &mut [u8], at: usize, n: usize, behind: u8) -> usize
     requires { at + length (digits n) < length out.old }
     ensures { (result ≡ at + length (field n behind)) × (out.new ≡ sets out.old at (field n behind)) }
@@ -45,6 +48,7 @@ fn put_field(out: &mut [u8], at: usize, n: usize, behind: u8) -> usize
 }
 
 // Writes a record's line from a place on, and answers the place behind it.
+#[tactic(auto, using(crate::proofs::Fields::line_steps))]
 pub fn put_line(
     out: &mut [u8],
     at: usize,

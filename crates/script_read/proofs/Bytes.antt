@@ -24,39 +24,55 @@ pub record Held (bytes left : List ℕ) (sum : ℕ) : Type 0 where
   pub behind : List ℕ
   pub joined : bytes ≡ left ++ behind
   pub held : sum ≡ little behind
+  pub fits : (i : ℕ) → Fits w8 (get_or bytes i 0)
+  pub few : length bytes ≤ 4
+  pub small : sum < 4294967296
 
 -- at first none
-pub none-held : {bytes left : List ℕ} → left ≡ bytes → Held bytes left 0
+pub none-held :
+    {bytes left : List ℕ} → ((i : ℕ) → Fits w8 (get_or bytes i 0)) → length bytes ≤ 4 → left ≡ bytes → Held bytes left 0
 unfolding little
-none-held {bytes} e = record {
+none-held {bytes} fit l e = record {
   behind = [];
   joined = sym e ∙ sym (append-nil _);
   held = refl;
+  fits = fit;
+  few = l;
+  small = omega arith;
 }
+
+-- four bytes hold a number below 2^32
+behind-small :
+    {bytes : List ℕ} (left behind : List ℕ) → bytes ≡ left ++ behind → ((i : ℕ) → Fits w8 (get_or bytes i 0)) → length bytes ≤ 4 →
+    little behind < 4294967296
+behind-small left behind e f l =
+    let short : length behind ≤ 4 = omega (arith, ap length e, length-append left behind) in
+    omega (arith, below behind fits, pow-le-pow_right {n = 256} (omega arith) short)
+  where
+    fits : (i : ℕ) → Fits w8 (get_or behind i 0)
+    fits i = rw (← get_or-append-add left behind i 0, ← e) (f (length left + i))
 
 -- the last byte that is left goes before them
 pub one-held :
     {bytes left : List ℕ} {sum : ℕ} (front : List ℕ) (x : ℕ) → Held bytes left sum → left ≡ push front x →
     Held bytes front (sum * 256 + x)
 unfolding little
-one-held front x f e = record {
-  behind = x ∷ f.behind;
-  joined = f.joined ∙ ap (λ (xs : List ℕ). xs ++ f.behind) e ∙ append_snoc front x f.behind;
-  held = omega (arith, f.held);
-}
+one-held {bytes} front x f e =
+    let joined : bytes ≡ front ++ (x ∷ f.behind) =
+    f.joined ∙ ap (λ (xs : List ℕ). xs ++ f.behind) e ∙ append_snoc front x f.behind in
+    record {
+      behind = x ∷ f.behind;
+      joined = joined;
+      held = omega (arith, f.held);
+      fits = f.fits;
+      few = f.few;
+      small = omega (arith, f.held, behind-small front (x ∷ f.behind) joined f.fits f.few);
+    }
 
 -- at the end all
 pub all-held : {bytes left : List ℕ} {sum : ℕ} → Held bytes left sum → length left ≡ 0 → sum ≡ little bytes
 all-held {left = []} f e = rw f.joined f.held
 all-held {left = x ∷ xs} f e = absurd (omega arith)
 
--- four bytes hold a number below 2^32
-pub held-small :
-    {bytes left : List ℕ} {sum : ℕ} → Held bytes left sum → ((i : ℕ) → Fits w8 (get_or bytes i 0)) → length bytes ≤ 4 →
-    sum < 4294967296
-held-small {bytes} {left} f h l =
-    let short : length f.behind ≤ 4 = omega (arith, ap length f.joined, length-append left f.behind) in
-    omega (arith, f.held, below f.behind fits, pow-le-pow_right {n = 256} (omega arith) short)
-  where
-    fits : (i : ℕ) → Fits w8 (get_or f.behind i 0)
-    fits i = rw (← get_or-append-add left f.behind i 0, ← f.joined) (h (length left + i))
+-- what the check of `number` uses
+pub ruleset bytes_steps = (none-held, one-held, all-held)

@@ -7,11 +7,11 @@ use Prim.Native.Nat.{ℕ, ◌+◌, ◌-◌, ◌≤◌}
 use native.Mathlib.Omega.{arith}
 use lib.ListN.{length, take, drop}
 use lib.Dec.{eqb}
-use Rattle.std.specs.Prelude.{Option, Some, None}
+use Rattle.std.specs.Prelude.{Some, None}
 use Rattle.rules.specs.Numbers.{SHAPE-TAG}
 use Rattle.rules.specs.Script.{decode, tag_at, length_at, uncut, placed, found, read_at}
 use Rattle.script_read.specs.declared.fields.Field.{Field}
-use Rattle.script_read.specs.Framing.{framed, field_of, uncut-within, framed-field, framed-cut}
+use Rattle.script_read.specs.Framing.{framed, field_of, uncut-within, within-uncut, past-cut, framed-field, framed-cut}
 use Rattle.rules.specs.declared.script.Record.{Record}
 
 -- the place as the code tests it: that it is first and that it is a shape are both so or both not
@@ -50,11 +50,22 @@ module _ (xs : List ℕ) (at : ℕ) (f : Field) (e : framed xs at ≡ Some f) wh
   pub value-within : (f.start ≤ f.end) × (f.end ≤ length xs)
   value-within = rw is (omega (arith, uncut-within xs at whole))
 
-  pub reads :
-      not (beq (eqb at 0) (eqb f.tag SHAPE-TAG)) ≡ false → (value : List ℕ) →
-      value ≡ take (f.end - f.start) (drop f.start xs) → (d : Option Record) → d ≡ decode f.tag value →
-      found d f.end ≡ read_at xs at
-  unfolding read_at
-  reads h value v d q =
-      let same : at + 3 + length_at xs at - (at + 3) ≡ length_at xs at = omega arith in
-      rw (q, v, is, same, whole, place false h)
+  -- it says a record, or none
+  module _ (h : not (beq (eqb at 0) (eqb f.tag SHAPE-TAG)) ≡ false) where
+    reads : found (decode f.tag (take (f.end - f.start) (drop f.start xs))) f.end ≡ read_at xs at
+    unfolding read_at
+    reads =
+        let same : at + 3 + length_at xs at - (at + 3) ≡ length_at xs at = omega arith in
+        rw (is, same, whole, place false h)
+
+    pub reads-none : decode f.tag (take (f.end - f.start) (drop f.start xs)) ≡ None → None ≡ read_at xs at
+    reads-none q = rw (← reads, q)
+
+    pub reads-some :
+        (r : Record) → decode f.tag (take (f.end - f.start) (drop f.start xs)) ≡ Some r → Some (r, f.end) ≡ read_at xs at
+    reads-some r q = rw (← reads, q)
+
+-- what the check of `field_at` uses, and what that of `read_at`
+pub ruleset field_steps = (within-uncut, past-cut)
+
+pub ruleset read_steps = (cut, misplaced, value-within, reads-none, reads-some)

@@ -13,6 +13,7 @@ pub struct Field {
 }
 
 // The field at an offset, unless the script ends before it does.
+#[tactic(auto, using(crate::proofs::Reading::field_steps), unfolding(crate::specs::Framing::framed))]
 pub fn field_at(script: &[u8], at: usize) -> Option<Field>
     ensures { result ≡ framed script.now at }
 {

@@ -11,6 +11,7 @@ ghost use Rattle.rules.specs.Script.{read_at};
 use rules::script::{Record, SHAPE_TAG};
 
 // The record at an offset and where the next one starts; tag 1 stands first, and only there.
+#[tactic(auto, using(crate::proofs::Reading::read_steps))]
 pub fn read_at(script: &[u8], at: usize) -> Option<(Record, usize)>
     ensures { result ≡ read_at script.now at }
 {

@@ -5,6 +5,7 @@ ghost use Rattle.rules.specs.Script.{number_at, signed};
 
 // The number that the bytes hold, from the highest byte down. By hand: `from_le_bytes` takes one length, and fields have one, two or
 // four bytes.
+#[tactic(auto, using(crate::proofs::Bytes::bytes_steps))]
 pub fn number(bytes: &[u8]) -> usize
     requires { length bytes.now ≤ 4 }
     ensures { (result ≡ little bytes.now) × (result < 4294967296) }
@@ -25,6 +26,7 @@ pub fn number_at(bytes: &[u8], at: usize, count: usize) -> usize
 }
 
 // A number of four bytes, as a signed one: the upper half are the numbers from -1 down.
+#[tactic(auto, using(crate::proofs::Signs::signed_is, crate::proofs::Signs::signed_back))]
 pub fn signed(number: usize) -> i32
     requires { number < 4294967296 }
     ensures { result ≡ signed number }

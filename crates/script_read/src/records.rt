@@ -60,7 +60,7 @@ fn give_record(value: &[u8]) -> Record
     }
 }
 
-// The tag tells the record, and the length whether its value is all of it.
+// The tag tells the record, and the length whether its value is all of it. A `match` on both, as document 01 names it.
 pub fn decode(tag: u8, value: &[u8]) -> Option<Record>
     ensures { result ≡ decode tag value.now }
 {

@@ -1,10 +1,11 @@
 -- The tables of a shape as parts of the longest ones.
 -- Assumes nothing.
-use mathlib.Core.Path.{◌≡◌, refl, ◌∙◌}
+use mathlib.Core.Path.{◌≡◌, refl, sym, ◌∙◌}
+use mathlib.Core.List.{List}
 use mathlib.Core.Bool.{true}
-use Prim.Native.Nat.{◌+◌, ◌*◌, ◌≤◌}
+use Prim.Native.Nat.{ℕ, ◌+◌, ◌*◌, ◌≤◌}
 use native.Mathlib.Omega.{arith}
-use lib.ListN.{take}
+use lib.ListN.{length, take}
 use lib.Seq.{length-take-le}
 use Rattle.shape.specs.declared.Shape.{Shape}
 use Rattle.shape.specs.Limits.{allowed, most_blocks, most_levels, most_threads}
@@ -55,3 +56,27 @@ fitting {s} {l} {T} f g =
       calls = length-take-le l.calls T.threads.calls (omega (arith, f.calls.1, g.calls)) ∙ f.calls.0;
       queue = length-take-le l.queue T.threads.queue (omega (arith, f.queue.1, g.queue)) ∙ f.queue.0;
     }
+
+-- each is no longer than the largest shape's
+module _ (s : Shape) {l : Lengths} (a : allowed s ≡ true) (e : l ≡ table_lengths s) where
+  pub states_most : l.states ≤ most_blocks
+  states_most = (fits a e).states.1
+
+  pub owners_most : l.owners ≤ most_blocks
+  owners_most = (fits a e).owners.1
+
+  pub lists_most : l.lists ≤ most_levels + most_blocks
+  lists_most = (fits a e).lists.1
+
+  pub calls_most : l.calls ≤ CELLS * most_threads
+  calls_most = (fits a e).calls.1
+
+  pub queue_most : l.queue ≤ most_threads + 1
+  queue_most = (fits a e).queue.1
+
+-- a part of that length has it
+pub taken : (n : ℕ) (xs : List ℕ) → n ≤ length xs → n ≡ length (take n xs)
+taken n xs h = sym (length-take-le n xs h)
+
+-- what the check of `run_shape` uses
+pub ruleset lends = (states_most, owners_most, lists_most, calls_most, queue_most, taken)

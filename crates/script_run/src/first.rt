@@ -95,6 +95,7 @@ fn run_built(
 }
 
 // Runs a script whose first record is this shape, on tables of its own: the parts of the longest that the shape needs.
+#[tactic(auto, using(crate::proofs::Lends::lends))]
 fn run_shape(script: &[u8], next: usize, s: Shape, out: &mut [u8], end: usize) -> usize
     requires { Headed script.now next s out.old end }
     ensures { AllListed script.now out.old end out.new result }

@@ -1,4 +1,4 @@
-// The free lists of the levels in a lent row of numbers, and the blocks' states in another.
+// The free lists of the levels in a row of numbers, how many and then which, and the blocks' states in another, as C lends them.
 #![tactic(auto)]
 
 mod rows;

@@ -13,6 +13,7 @@ pub fn drop_first(row: &mut [u16], n: usize)
 }
 
 // Keeps the members that are no parts of this block, in their order, and clears the places behind them; answers how many stay.
+// By index, since it reads and writes one row. One function for this and for the queue's `keep_waiting` would take cells, place and test.
 pub fn remove_parts(row: &mut [u16], n: usize, parts: usize, parent: usize) -> usize
     requires { Ended row.old n × (0 < parts) }
     ensures { (result ≡ length (keep (elsewhere parts parent) (take n row.old)))

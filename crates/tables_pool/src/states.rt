@@ -1,4 +1,4 @@
-// The blocks' states, a number for each block at its place; owners stand in a row of the same form.
+// The blocks' states, a number for each block at its place; owners stand in a row of the same form. C lends both so.
 ghost use Rattle.std.specs.Prelude.{◌≡◌, ◌∷◌, ◌+◌, ◌*◌, ◌-◌, ◌/◌, ◌≤◌, ◌<◌, length, set, replicate};
 ghost use Rattle.std.proofs.lemmas.List.Edits.{sets};
 ghost use Rattle.shape.specs.Limits.{parts};

@@ -1,3 +1,4 @@
+// A thread's call in its six cells of the table, which C lends.
 ghost use Rattle.std.specs.Prelude.{◌≡◌, ◌+◌, ◌*◌, ◌≤◌, length};
 ghost use Rattle.rules.specs.Numbers.{CELLS};
 ghost use Rattle.rules.specs.Tables.{call_of, put_call};

@@ -1,3 +1,4 @@
+// The queue as C lends it: how many wait, and behind that number who.
 ghost use Rattle.std.specs.Prelude.{◌≡◌, [], ◌∷◌, ◌++◌, ◌+◌, ◌-◌, ◌≤◌, ◌<◌, length, get_or};
 ghost use Rattle.shape.specs.Limits.{most_threads};
 ghost use Rattle.rules.specs.Tables.{queue_of, put_queue};

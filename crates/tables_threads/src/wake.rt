@@ -42,8 +42,8 @@ fn is_due(calls: &[u64], t: usize, clock: usize) -> bool
     (call.wait == TIMED) & (call.deadline == clock)
 }
 
-// The queue's threads that are due become ready and asked; their number is answered. With a test to be given, `wake_queued` would count
-// what it needs not count.
+// The queue's threads that are due become ready and asked; their number is answered. Not one with
+// `wake_queued`, which makes no test, and whose number is the queue's own.
 fn wake_those_due(calls: &mut [u64], queue: &[u8], clock: usize) -> usize
     requires { MembersInside calls.old queue.now }
     ensures { (calls.new ≡ wake calls.old (keep (due calls.old clock) (queue_of queue.now)))
@@ -60,7 +60,7 @@ fn wake_those_due(calls: &mut [u64], queue: &[u8], clock: usize) -> usize
     woken
 }
 
-// Those that are due leave the queue, the rest keeping their order.
+// Those that are due leave the queue, the rest keeping their order. By index, since it reads and writes one slice.
 fn keep_waiting(calls: &[u64], queue: &mut [u8], clock: usize)
     requires queue_ready { QueueReady queue.old }
     requires members_inside { MembersInside calls.now queue.old }

