@@ -1,4 +1,5 @@
-// What is said of one call by itself.
+// What is said of one call by itself. Its tests are joined by `&` and `|`: by `&&`, with early returns here, in check_hands and in
+// check_queue, an ask on four blocks among open calls took 286 ns, and not 222.
 #![tactic(auto, unfolding(crate::proofs::Lines::every_line))]
 
 ghost use Rattle.std.specs.Prelude.{◌≡◌, true, not, ◌||◌, ◌<◌, ◌^◌, leb, eqb};
@@ -30,13 +31,13 @@ fn fields_used(c: Call) -> bool
 {
     let wait = uses_wait(c);
     let block = uses_block(c);
-    c.stage <= rules::WAITING
-        && c.wait <= rules::TIMED
-        && (wait || c.stage == rules::DIVIDING || c.size == 0)
-        && (wait || c.wait == 0)
-        && ((wait && c.wait == rules::TIMED) || c.deadline == 0)
-        && (c.stage == rules::FOUND || block || c.level == 0)
-        && (block || c.block == 0)
+    (c.stage <= rules::WAITING)
+        & (c.wait <= rules::TIMED)
+        & (wait | (c.stage == rules::DIVIDING) | (c.size == 0))
+        & (wait | (c.wait == 0))
+        & ((wait & (c.wait == rules::TIMED)) | (c.deadline == 0))
+        & ((c.stage == rules::FOUND) | block | (c.level == 0))
+        & (block | (c.block == 0))
 }
 
 // Whether a block in hand is a block of the shape.
@@ -60,16 +61,16 @@ fn deadline_kept(clock: usize, c: Call) -> bool
     requires { clock < 2 ^ 32 }
     ensures { result ≡ deadline_kept clock c }
 {
-    !(uses_wait(c) && c.wait == rules::TIMED)
-        || (c.deadline <= clock + Millis::longest_in_ticks()
-            && (c.stage != rules::WAITING || clock < c.deadline))
+    !(uses_wait(c) & (c.wait == rules::TIMED))
+        | ((c.deadline <= clock + Millis::longest_in_ticks())
+            & ((c.stage != rules::WAITING) | (clock < c.deadline)))
 }
 
 // Whether a call that waits may wait.
 fn may_wait(c: Call) -> bool
     ensures { result ≡ may_wait c }
 {
-    c.stage != rules::WAITING || c.wait != rules::NEVER
+    (c.stage != rules::WAITING) | (c.wait != rules::NEVER)
 }
 
 // Whether all that is said of one call holds: of a closed one, that it holds zeros.
@@ -81,10 +82,10 @@ pub fn call_kept(s: Shape, clock: usize, c: Call) -> bool
         return c == Call::closed();
     }
     fields_used(c)
-        && hand_inside(s, c)
-        && not_deeper(s, rules::DIVIDING, c)
-        && c.size <= s.top_size
-        && not_deeper(s, rules::FOUND, c)
-        && deadline_kept(clock, c)
-        && may_wait(c)
+        & hand_inside(s, c)
+        & not_deeper(s, rules::DIVIDING, c)
+        & (c.size <= s.top_size)
+        & not_deeper(s, rules::FOUND, c)
+        & deadline_kept(clock, c)
+        & may_wait(c)
 }

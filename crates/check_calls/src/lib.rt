@@ -16,10 +16,9 @@ pub fn calls_valid(s: Shape, clock: usize, calls: &[u64]) -> bool
     requires { (allowed s ≡ true) × (clock < 2 ^ 32) × (length calls.now ≡ CELLS * s.threads) }
     ensures { result ≡ calls_kept s clock calls.now }
 {
+    let mut ok = true;
     for t in 0..s.threads {
-        if !call::call_kept(s, clock, call_of(calls, t)) {
-            return false;
-        }
+        ok &= call::call_kept(s, clock, call_of(calls, t));
     }
-    true
+    ok
 }

@@ -1,10 +1,8 @@
 -- One turn and the end of the loop over the calls, and what the calls that are counted are.
 -- Assumes nothing.
-use Rattle.std.proofs.Common.{◌≡◌, refl, sym, ◌∙◌, ap₂, Bool, true, false, cond, ◌&&◌, ◌⊎◌, inl, inr, List, [], ◌∷◌, length, map, ℕ, zero, suc, ◌+◌, ◌*◌, ◌≤◌, ◌<◌, eqb, add-zero, add-one, arith, length-append, eqb-true, eq-eqb, ne_eqb}
-use Rattle.std.specs.List.{filter, range_with_len}
-use Rattle.std.proofs.lemmas.List.FromFn.{filter_of_map_range_with_len_more}
+use Rattle.std.proofs.Common.{◌≡◌, refl, sym, ◌∙◌, ap₂, Bool, true, false, ◌&&◌, ◌⊎◌, inl, inr, List, length, ℕ, ◌+◌, ◌*◌, ◌≤◌, ◌<◌, eqb, add-zero, arith, eqb-true, eq-eqb, ne_eqb}
 use Rattle.std.proofs.Math.Bool.{and-true, and-false, or-true}
-use Rattle.laws.specs.Tests.{bit, both, both_of, every, every-none, every_more, every-not, every-both, tally, tally-none, tally-more, tally-most}
+use Rattle.laws.specs.Tests.{bit, both, both_of, every, every-none, every_more, every-both, tally, tally-none, tally-more, tally-most}
 use Rattle.laws.specs.Times.{same_test}
 use Rattle.shape.specs.declared.Shape.{Shape}
 use Rattle.shape.specs.Limits.{allowed}
@@ -15,18 +13,6 @@ use Rattle.rules.specs.Tables.{call_of}
 use Rattle.rules.specs.Valid.{dividing, releasing, one_to_one}
 use Rattle.check_counts.specs.Counted.{counted, counted-two}
 use Rattle.check_hands.specs.Hands.{hands_inside, at_stage, alone_with, hand_alone, hand_known, Lent, Hands, hands, hand_at, corresponds, alone-fewer}
-
--- as many of the first n threads' calls pass as a list of these calls keeps
-pub kept-tally : (n : ℕ) (f : ℕ → Call) (p : Call → Bool) → length (filter p (map f (range_with_len 0 n))) ≡ tally n (λ t. p (f t))
-unfolding tally
-kept-tally zero f p = refl
-kept-tally (suc n) f p =
-    rw (rw add-one at (filter_of_map_range_with_len_more p f 0 n n (omega arith)), length-append, kept-tally n f p)
-    (last (p (f n)))
-  where
-    last : (b : Bool) → tally n (λ t. p (f t)) + length (cond b (f n ∷ []) []) ≡ tally n (λ t. p (f t)) + bit b
-    last true = refl
-    last false = refl
 
 -- a call at either stage is alone with a block of its state
 abbrev pub own_alone : Shape → List ℕ → List ℕ → Call → Bool
@@ -55,16 +41,16 @@ meet f g t u false b h k = simp and-false
 abbrev pub Holds : Call → ℕ → Type 0
 Holds c st = ((c.stage ≡ DIVIDING) × (st ≡ ALLOCATING)) ⊎ ((c.stage ≡ RELEASING) × (st ≡ FREEING))
 
--- so many of the first t calls are dividing or releasing, and each of these is alone
-pub record Looked (s : Shape) (states calls : List ℕ) (n t : ℕ) : Type 0 where
+-- so many of the first t calls are dividing or releasing, and the flag says whether each of these is alone
+pub record Looked (s : Shape) (states calls : List ℕ) (ok : Bool) (n t : ℕ) : Type 0 where
   pub sum : n ≡ tally t (λ u. dividing (call_of calls u)) + tally t (λ u. releasing (call_of calls u))
-  pub each : every t (λ u. own_alone s states calls (call_of calls u)) ≡ true
+  pub each : ok ≡ every t (λ u. own_alone s states calls (call_of calls u))
 
-pub looked-none : (s : Shape) (states calls : List ℕ) → Looked s states calls 0 0
-looked-none s states calls = record { sum = simp tally-none; each = every-none _ }
+pub looked-none : (s : Shape) (states calls : List ℕ) → Looked s states calls true 0 0
+looked-none s states calls = record { sum = simp tally-none; each = sym (every-none _) }
 
 -- no more than two for each thread
-pub looked-most : {s : Shape} {states calls : List ℕ} {n t : ℕ} → Looked s states calls n t → n ≤ 2 * t
+pub looked-most : {s : Shape} {states calls : List ℕ} {ok : Bool} {n t : ℕ} → Looked s states calls ok n t → n ≤ 2 * t
 looked-most {calls = calls} {t = t} p =
     omega (
       arith,
@@ -76,9 +62,9 @@ looked-most {calls = calls} {t = t} p =
 module _ (s : Shape) (states calls : List ℕ) (t : ℕ) (c : Call) (at : c ≡ call_of calls t) where
   -- one call more
   looked-more :
-      {n : ℕ} (k : ℕ) → Looked s states calls n t → bit (dividing c) + bit (releasing c) ≡ k → own_alone s states calls c ≡ true →
-      Looked s states calls (n + k) (t + 1)
-  looked-more k p e a =
+      {ok : Bool} {n : ℕ} (a : Bool) (k : ℕ) → Looked s states calls ok n t → bit (dividing c) + bit (releasing c) ≡ k →
+      own_alone s states calls c ≡ a → Looked s states calls (ok && a) (n + k) (t + 1)
+  looked-more a k p e q =
       record {
         sum =
             omega (
@@ -88,7 +74,7 @@ module _ (s : Shape) (states calls : List ℕ) (t : ℕ) (c : Call) (at : c ≡ 
               tally-more t (λ u. releasing (call_of calls u)),
               rw at at e,
             );
-        each = rw every_more (both_of _ _ p.each (rw at at a));
+        each = rw (every_more, p.each, ← at, q);
       }
 
   -- of a call with a block in hand it is asked that it is alone with a block of that state
@@ -98,20 +84,21 @@ module _ (s : Shape) (states calls : List ℕ) (t : ℕ) (c : Call) (at : c ≡ 
 
   -- a call with a block in hand, and any other
   pub looked-hand :
-      {n st : ℕ} → Looked s states calls n t → Holds c st → true ≡ alone_with s states calls st (at_stage c.stage) c →
-      Looked s states calls (n + 1) (t + 1)
-  looked-hand {st = st} p h a = looked-more 1 p (one h) (asked st h ∙ sym a)
+      {ok a : Bool} {n st : ℕ} → Looked s states calls ok n t → Holds c st → a ≡ alone_with s states calls st (at_stage c.stage) c →
+      Looked s states calls (ok && a) (n + 1) (t + 1)
+  looked-hand {a = a} {st = st} p h q = looked-more a 1 p (one h) (asked st h ∙ sym q)
     where
       one : Holds c st → bit (dividing c) + bit (releasing c) ≡ 1
       one (inl (e, v)) = rw e
       one (inr (e, v)) = rw e
 
   pub looked-other :
-      {n : ℕ} → Looked s states calls n t → (c.stage ≡ DIVIDING → ⊥) → (c.stage ≡ RELEASING → ⊥) → Looked s states calls n (t + 1)
-  looked-other {n} p d r =
+      {ok : Bool} {n : ℕ} → Looked s states calls ok n t → (c.stage ≡ DIVIDING → ⊥) → (c.stage ≡ RELEASING → ⊥) →
+      Looked s states calls ok n (t + 1)
+  looked-other {ok} {n} p d r =
       let q = ne_eqb c.stage DIVIDING d in
       let v = ne_eqb c.stage RELEASING r in
-      rw add-zero at (looked-more {n = n} 0 p (rw (q, v)) (rw (q, v)))
+      rw (and-true, add-zero) at (looked-more {ok = ok} {n = n} true 0 p (rw (q, v)) (rw (q, v)))
 
 module _
     (s : Shape) (states calls : List ℕ)
@@ -144,16 +131,8 @@ module _
           && every s.threads (λ u. hand_alone s states calls FREEING releasing (call_of calls u)))
       each = every-both s.threads _ _
 
-  -- a call that isn't alone
-  pub looked-out :
-      (t : ℕ) (c : Call) (st : ℕ) → t < s.threads → c ≡ call_of calls t → Holds c st →
-      false ≡ alone_with s states calls st (at_stage c.stage) c →
-      false ≡ (one_to_one ALLOCATING dividing s states calls && one_to_one FREEING releasing s states calls)
-  looked-out t c st l q h a =
-      rw (every-not s.threads _ t l (rw q at (asked s states calls t c q st h ∙ sym a)), and-false) at both-ways
-
   -- all calls
   pub looked-all :
-      {n t m : ℕ} → Looked s states calls n t → t ≡ s.threads → m ≡ counted states ALLOCATING FREEING →
-      eqb m n ≡ (one_to_one ALLOCATING dividing s states calls && one_to_one FREEING releasing s states calls)
-  looked-all p q e = rw (e, p.sum, q) (rw (rw q at p.each, and-true) at both-ways)
+      {ok : Bool} {n t m : ℕ} → Looked s states calls ok n t → t ≡ s.threads → m ≡ counted states ALLOCATING FREEING →
+      (eqb m n && ok) ≡ (one_to_one ALLOCATING dividing s states calls && one_to_one FREEING releasing s states calls)
+  looked-all p q e = rw (e, p.sum, p.each, q) both-ways

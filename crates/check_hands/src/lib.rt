@@ -1,4 +1,4 @@
-// Whether the blocks in hand are those of a valid state.
+// Whether the blocks in hand are those of a valid state, by a flag and sums: check_calls/src/call.rt says what early returns cost.
 #![tactic(auto)]
 
 ghost use Rattle.std.specs.Prelude.{◌≡◌, true, ◌&&◌, ◌*◌, length};
@@ -18,10 +18,12 @@ fn holders(s: Shape, calls: &[u64], stage: usize, level: usize, block: usize) ->
     requires { length calls.now ≡ CELLS * s.threads }
     ensures { result ≡ holders s calls.now (at_stage stage) level block }
 {
-    (0..s.threads)
-        .map(|t| call_of(calls, t))
-        .filter(|c| (c.stage == stage) & (c.level == level) & (c.block == block))
-        .count()
+    let mut sum = 0;
+    for t in 0..s.threads {
+        let c = call_of(calls, t);
+        sum += ((c.stage == stage) & (c.level == level) & (c.block == block)) as usize;
+    }
+    sum
 }
 
 // Whether a call has a block of a state in hand, which no other call at its stage has.
@@ -39,6 +41,7 @@ pub fn hands_valid(s: Shape, states: &[u8], calls: &[u64]) -> bool
     requires { (allowed s ≡ true) × (length states.now ≡ blocks s) × (length calls.now ≡ CELLS * s.threads) × (hands_inside s calls.now ≡ true) }
     ensures { result ≡ (one_to_one ALLOCATING dividing s states.now calls.now && one_to_one FREEING releasing s states.now calls.now) }
 {
+    let mut ok = true;
     let mut sum = 0;
     for t in 0..s.threads {
         let c = call_of(calls, t);
@@ -47,10 +50,8 @@ pub fn hands_valid(s: Shape, states: &[u8], calls: &[u64]) -> bool
             rules::RELEASING => rules::FREEING,
             _ => continue,
         };
-        if !alone(s, states, calls, c, state) {
-            return false;
-        }
+        ok &= alone(s, states, calls, c, state);
         sum += 1;
     }
-    count_of(states, rules::ALLOCATING, rules::FREEING) == sum
+    (count_of(states, rules::ALLOCATING, rules::FREEING) == sum) & ok
 }

@@ -1,4 +1,4 @@
-// The queue and the running thread.
+// The queue and the running thread, by flags and sums: check_calls/src/call.rt says what early returns cost.
 ghost use Rattle.std.specs.Prelude.{◌≡◌, ◌+◌, ◌*◌, ◌≤◌, length, get_or};
 ghost use Rattle.laws.specs.Tests.{every};
 ghost use Rattle.laws.specs.Lists.{times};
@@ -18,7 +18,11 @@ pub fn queue_ends(s: Shape, queue: &[u8]) -> bool
     ensures { result ≡ queue_ends s queue.now }
 {
     let end = usize::from(queue[0]);
-    (end <= s.threads) && queue[1 + end..].iter().all(|&entry| entry == 0)
+    let mut ok = end <= s.threads;
+    for (i, &entry) in queue[1..].iter().enumerate() {
+        ok &= (i < end) | (entry == 0);
+    }
+    ok
 }
 
 // The members of the queue.
@@ -34,9 +38,11 @@ fn members_known(s: Shape, queue: &[u8]) -> bool
     requires { get_or queue.now 0 0 + 1 ≤ length queue.now }
     ensures { result ≡ every (length (queue_of queue.now)) (known s.threads queue.now) }
 {
-    members(queue)
-        .iter()
-        .all(|&member| usize::from(member) < s.threads)
+    let mut ok = true;
+    for &member in members(queue) {
+        ok &= usize::from(member) < s.threads;
+    }
+    ok
 }
 
 // How often a thread stands in the queue.
@@ -44,10 +50,11 @@ fn times_queued(thread: usize, queue: &[u8]) -> usize
     requires { get_or queue.now 0 0 + 1 ≤ length queue.now }
     ensures { result ≡ times thread (queue_of queue.now) }
 {
-    members(queue)
-        .iter()
-        .filter(|&&member| thread == usize::from(member))
-        .count()
+    let mut found = 0;
+    for &member in members(queue) {
+        found += (thread == usize::from(member)) as usize;
+    }
+    found
 }
 
 // Whether each thread stands in the queue once where its call is waiting, and nowhere otherwise.
@@ -55,13 +62,12 @@ fn waiters_once(s: Shape, calls: &[u64], queue: &[u8]) -> bool
     requires { (length calls.now ≡ CELLS * s.threads) × (get_or queue.now 0 0 + 1 ≤ length queue.now) }
     ensures { result ≡ every s.threads (named calls.now queue.now) }
 {
+    let mut ok = true;
     for t in 0..s.threads {
         let waits = call_of(calls, t).stage == rules::WAITING;
-        if times_queued(t, queue) != usize::from(waits) {
-            return false;
-        }
+        ok &= times_queued(t, queue) == usize::from(waits);
     }
-    true
+    ok
 }
 
 // Whether the queue names each blocked thread once and nothing else.

@@ -1,14 +1,11 @@
--- `check_queue::queue::members_known` meets its contract: each member is tested.
+-- `check_queue::queue::members_known` meets its contract: the flag says of the members passed whether each is a thread of the shape.
 -- Assumes nothing.
-use Rattle.std.proofs.Common.{ltb, ◌∙◌, rules, tests}
-use Rattle.std.proofs.lemmas.Iterator.{YieldsList-from_slice}
-use Rattle.std.proofs.lemmas.Iterator.Search.{all_from_yields_List}
-use Rattle.rules.specs.Tables.{queue_of}
-use Rattle.check_queue.proofs.Members.{all-every}
+use Rattle.std.proofs.Common.{sym}
+use Rattle.laws.specs.Tests.{every-none, every_more}
 use Rattle.check_queue.proofs.queue.members_known.Goals as goal
 
-pub returns : goal.returns
-returns c =
-    all_from_yields_List (λ x. ltb x c.args.s.threads) _ _ _ c.all.ensures.ran (YieldsList-from_slice (queue_of c.args.queue.now) (cc))
-    (λ x b q k. search (rules, tests))
-    ∙ all-every _ _
+pub loop-member-init : goal.loop-member-init
+loop-member-init c = sym (every-none _)
+
+pub loop-member-preserved : goal.loop-member-preserved
+loop-member-preserved c = rw (every_more, c.loop-member.invariant, c.from.ensures, c.members-member-items.ensures)
