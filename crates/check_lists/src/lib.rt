@@ -8,7 +8,7 @@ ghost use Rattle.laws.specs.Tests.{every};
 ghost use Rattle.shape.specs.Limits.{most_count, allowed};
 ghost use Rattle.shape.specs.Blocks.{blocks};
 ghost use Rattle.rules.specs.Valid.{list_ends, free_listed};
-ghost use Rattle.check_lists.specs.Level.{Tells, level_valid};
+ghost use Rattle.check_lists.specs.Level.{Tells, zeros, below, level_valid};
 
 use check_counts::count_of;
 use rules;
@@ -26,6 +26,20 @@ fn all_pass<F: Fn(u16) -> bool>(cells: &[u16], passes: F) -> bool
     ok
 }
 
+// Whether every cell holds zero.
+fn all_zero(cells: &[u16]) -> bool
+    ensures { result ≡ zeros cells.now }
+{
+    all_pass(cells, |cell| cell == 0)
+}
+
+// Whether every member is below a bound.
+fn all_below(members: &[u16], bound: u16) -> bool
+    ensures { result ≡ below members.now bound }
+{
+    all_pass(members, |member| member < bound)
+}
+
 // What validity says of one level's list: its cells, and how many are used.
 fn level_valid(states: &[u8], cells: &[u16], used: u16) -> bool
     requires { (length states.now ≤ most_count) × (length cells.now ≡ length states.now) }
@@ -35,12 +49,11 @@ fn level_valid(states: &[u8], cells: &[u16], used: u16) -> bool
     if cells.len() < end {
         return false;
     }
-    if !all_pass(&cells[end..], |cell| cell == 0) {
+    if !all_zero(&cells[end..]) {
         return false;
     }
     let members = &cells[..end];
-    let bound = states.len() as u16;
-    if !all_pass(members, |member| member < bound) {
+    if !all_below(members, states.len() as u16) {
         return false;
     }
     let mut marks = [0u8; marks::ROW];
